@@ -296,7 +296,7 @@ typedef struct fd_format_options {
     uint32_t maximum_significant_digits; /* the minimum to 65536, which is no maximum */
     int16_t scale;                       /* times 10^scale, first */
     uint16_t exponent_digits;            /* the least number of digits of an exponent */
-    uint16_t minimum_integer_digits;     /* 1 to 32767 */
+    uint16_t minimum_integer_digits;     /* 0 to 32767; by 0 no integer digit has to be written: .5 */
     uint16_t maximum_integer_digits;     /* the minimum to 32768, which is no maximum */
     uint16_t minimum_fraction_digits;    /* 0 to 32768 */
     uint16_t maximum_fraction_digits;    /* the minimum to 65535, which is no maximum; FD_BY_INCREMENT: at most 32768 */

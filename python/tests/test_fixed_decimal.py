@@ -275,7 +275,7 @@ def test_class():
     raises(TypeError, lambda: Decimal("1").compare(1), text="compare() takes a Decimal, not int: write Decimal(x)")
     raises(DecimalError, lambda: Decimal("1").format("tlh", skeleton="percent"), "unknown locale")
     raises(DecimalError, lambda: Decimal("1").format("tlh", skeleton="percent/w"), "skeleton syntax")
-    raises(DecimalError, lambda: Decimal("1").format("en", skeleton="group-thousands"), "skeleton unsupported")
+    raises(DecimalError, lambda: Decimal("1").format("en", skeleton="rounding-mode-half-odd"), "skeleton unsupported")
     raises(TypeError, lambda: Decimal("1").format("en", "auto", "percent"))
     raises(DecimalError, lambda: Decimal("1").format("tlh"), "unknown locale")
     raises(DecimalError, lambda: Decimal.read("1", "tlh"), "unknown locale")
@@ -338,8 +338,8 @@ def test_messages():
         (lambda: one.format("tlh", style="percent"), "unknown locale: 'tlh'"),
         (lambda: one.format("de", skeleton="percent/w"), "skeleton syntax: 'percent/w'"),
         (lambda: Decimal.read("1x", "de"), "syntax: '1x'"), (lambda: Decimal.read("1", "tlh"), "unknown locale: 'tlh'"),
-        (lambda: Decimal.read("1", "de", skeleton="group-thousands"),
-         "skeleton unsupported: 'group-thousands'"),
+        (lambda: Decimal.read("1", "de", skeleton="rounding-mode-half-odd"),
+         "skeleton unsupported: 'rounding-mode-half-odd'"),
         (lambda: Decimal.read("1", "de", skeleton="K"), "unreadable format"),
         (lambda: one.format("de", numbering_system="roman"), "unknown numbering system"),
         (lambda: one.format("de", **digits),
@@ -587,8 +587,8 @@ def test_errors_of_number_formats():
         (lambda: NumberFormat("\udcff"), "unknown locale: '\\udcff'"),
         (lambda: NumberFormat("tlh", skeleton="percent/w"), "skeleton syntax: 'percent/w'"),
         (lambda: NumberFormat("de", skeleton="\ud800"), "skeleton syntax: '\\ud800'"),
-        (lambda: NumberFormat("de", skeleton="group-thousands"),
-         "skeleton unsupported: 'group-thousands'"),
+        (lambda: NumberFormat("de", skeleton="rounding-mode-half-odd"),
+         "skeleton unsupported: 'rounding-mode-half-odd'"),
         (lambda: NumberFormat("de", numbering_system="roman"), "unknown numbering system"),
         (lambda: NumberFormat("de", minimum_integer_digits=22), "digit options: integer digits are from 1 to 21"),
     ):

@@ -245,7 +245,7 @@ fn skeletons() {
     }
     for (text, locale, skeleton, error) in [
         ("1", "tlh", "percent/w", NumberFormatError::SkeletonSyntax(7)),
-        ("1", "tlh", ".00 group-thousands", NumberFormatError::SkeletonUnsupported(4)),
+        ("1", "tlh", ".00 rounding-mode-half-odd", NumberFormatError::SkeletonUnsupported(4)),
         ("1e32767", "tlh", "scale/100", NumberFormatError::UnknownLocale),
         ("1e32767", "en", "scale/100", NumberFormatError::Limit),
     ] {

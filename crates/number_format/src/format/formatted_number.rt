@@ -408,6 +408,17 @@ impl<'f> FormattedNumber<'f> {
         put_to_block(&self.exponent_digits(exponent), block)
     }
 
+    /// Appends the digits, but not those of a number that begins with the decimal separator.
+    #[inline(always)]
+    fn push_digits(&self, block: &mut Block) -> Result<(), SinkFault>
+        ensures { OnOk result (block.new.0 ≡ block.old.0 ++ digits_of self.now) }
+    {
+        if self.hides_zero() {
+            return Err(SinkFault);
+        }
+        put_to_block(&self.digits(), block)
+    }
+
     #[inline(always)]
     fn push_separator(&self, block: &mut Block) -> Result<(), SinkFault>
         ensures { OnOk result (block.new.0 ≡ block.old.0 ++ separator_of self.now) }
@@ -422,10 +433,7 @@ impl<'f> FormattedNumber<'f> {
     fn put_digits(&self, block: &mut Block) -> Result<(), SinkFault>
         ensures { OnOk result (block.new.0 ≡ block.old.0 ++ number_text self.now) }
     {
-        if self.hides_zero() {
-            return Err(SinkFault);
-        }
-        put_to_block(&self.digits(), block)?;
+        self.push_digits(block)?;
         self.push_separator(block)?;
         match self.formatter.options.notation {
             NumberNotation::Scientific(options) | NumberNotation::Engineering(options) => {

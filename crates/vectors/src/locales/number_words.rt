@@ -7,9 +7,9 @@ use locale_data::{CurrencyCode, CurrencySign, NumberingSystem};
 use number_format::{
     BothDigits, CompactLength, CurrencyDisplay, CurrencyStyle, CurrencyUsage,
     DecimalSeparatorDisplay, DigitOptions, DigitOptionsError, DigitSettings, ExponentOptions,
-    ExponentSign, FractionDigits, FractionMultiples, Increment, IntegerDigits, Minimum, Notation,
-    NumberNotation, NumberOptions, NumberReaderError, NumberStyle, Precision, RoundingPriority,
-    SignificantDigits, TrailingZeros, Unit, UnitDisplay, UnitStyle,
+    ExponentSign, FractionDigits, FractionMultiples, GroupSizes, Increment, IntegerDigits, Minimum,
+    Notation, NumberNotation, NumberOptions, NumberReaderError, NumberStyle, Precision,
+    RoundingPriority, SignificantDigits, TrailingZeros, Unit, UnitDisplay, UnitStyle,
 };
 use test_support::named;
 
@@ -153,6 +153,7 @@ enum Word {
     CompactLength(CompactLength),
     Sign(SignDisplay),
     Grouping(GroupingStrategy),
+    GroupSizes(GroupSizes),
     DecimalSeparator(DecimalSeparatorDisplay),
     Mode(SignedRoundingMode),
     Priority(RoundingPriority),
@@ -167,8 +168,8 @@ const EXPONENT: ExponentOptions = ExponentOptions {
 };
 
 /// The words of options with few values, by the names of ECMA-402. Those that it does not have: `check` is what is
-/// checked, `decimalSeparator` is that of skeletons, and with `limited` the digits are in a store that is out of memory
-/// for more than 16 of them.
+/// checked, `decimalSeparator` and `groupSizes` are those of skeletons, and with `limited` the digits are in a store
+/// that is out of memory for more than 16 of them.
 const WORDS: &[(&str, Word)] = &[
     ("style=decimal", Word::Decimal),
     ("style=percent", Word::Percent),
@@ -247,6 +248,10 @@ const WORDS: &[(&str, Word)] = &[
     ),
     ("useGrouping=min2", Word::Grouping(GroupingStrategy::Min2)),
     (
+        "groupSizes=thousands",
+        Word::GroupSizes(GroupSizes::Thousands),
+    ),
+    (
         "decimalSeparator=auto",
         Word::DecimalSeparator(DecimalSeparatorDisplay::Auto),
     ),
@@ -314,6 +319,7 @@ fn set_word(options: &mut Options, word: Word) {
         Word::CompactLength(length) => options.compact_length = length,
         Word::Sign(display) => options.number.sign_display = display,
         Word::Grouping(grouping) => options.number.grouping = grouping,
+        Word::GroupSizes(sizes) => options.number.group_sizes = sizes,
         Word::DecimalSeparator(display) => options.number.decimal_separator = display,
         Word::Mode(mode) => options.settings.rounding_mode = mode,
         Word::Priority(priority) => options.settings.rounding_priority = priority,
