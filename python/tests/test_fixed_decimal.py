@@ -569,6 +569,14 @@ def test_number_format():
     more = NumberFormat("en", skeleton="permille scale/100 sign-never integer-width/##0").resolved_options()
     found = [more.get(name) for name in ("style", "scale", "sign_display", "maximum_integer_digits")]
     check(found == ["permille", 2, "never", 3], "more options", more)
+    thousands = NumberFormat("hi", skeleton="group-thousands integer-width/##0")
+    check(thousands.resolved_options().get("group_sizes") == "thousands", "groups of three")
+    hidden = NumberFormat("en", skeleton="currency/USD integer-width/*")
+    parts = [(part["type"], part["value"]) for part in hidden.format_to_parts("-0.5")]
+    want = [("minusSign", "-"), ("currency", "$"), ("decimal", "."), ("fraction", "50")]
+    check(hidden.format("-0.5") == "-$.50" and parts == want, "no integer digit", parts)
+    check(hidden.format_range("0.25", "1") == "$.25 \u2013 $1.00", "a range", hidden.format_range("0.25", "1"))
+    raises(DecimalError, lambda: hidden.read("$.50"), "unreadable format")
     more = NumberFormat("en", skeleton="@@+").resolved_options()
     check(more.get("maximum_significant_digits", 0) is None, "no maximum", more)
 

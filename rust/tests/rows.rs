@@ -240,6 +240,8 @@ fn skeletons() {
         ("is", "scientific", "1500", "1,5E3"),
         ("uk", "percent", "5300000", "5\u{a0}300\u{a0}000%"),
         ("en", "%x100 sign-never numbering-system/arabext", "-3.5", "۳۵۰٪"),
+        ("hi", "precision-increment/0.25 group-thousands permille sign-negative", "1000", "1,000.00‰"),
+        ("cs", "integer-width-trunc", "-2.5", "-,5"),
     ] {
         assert_eq!(decimal(text).format_number(locale, skeleton).as_deref(), Ok(written), "{locale} {skeleton}");
     }
