@@ -185,7 +185,7 @@ if command -v sqlite3 > /dev/null && echo '#include <sqlite3ext.h>' | gcc -E -x 
     "'en', 'K', 'x'|skeleton: no reader" "'en', 'notation', 'compact', 'x'|no reader of such numbers"
   rejects plural "'one: n =', '1'|rules: syntax at 8" "'xx', '1'|unknown locale" "'en:nominal', '1'|rules: syntax at 0" \
     "'en', '1x'|start: syntax"
-  rejects format_number "'tlh', 'percent/w', 'x'|skeleton: syntax at 7" "'en', '.00 group-thousands', '1'|skeleton: unsupported at 4" \
+  rejects format_number "'tlh', 'percent/w', 'x'|skeleton: syntax at 7" "'en', '.00 rounding-mode-half-odd', '1'|skeleton: unsupported at 4" \
     "'tlh', 'percent', 'x'|unknown locale" "'en', 'percent', '1x'|start: syntax" "'en', 'scale/100', '1e32767'|format: overflow" \
     "'en'|a locale, names with values, and a number" "|a locale, names with values, and a number" \
     "'en', 'style', 'percent', 'notation', 5|a locale, names with values, and a number" \

@@ -7,6 +7,7 @@ Options are words `name=value` by the names of ECMA-402, or JSON. These are beyo
 - `integer=MIN,MAX`, the integer digits.
 - `scientific=DIGITS,SIGN` and `engineering=DIGITS,SIGN`, with the digits and the sign of the exponent.
 - `scale=POWER`, which replaces that of the style before it.
+- `groupSizes`: `locale` or `thousands`.
 - `decimalSeparator`, and the words `permille` and `hidden`, as ICU has them.
 
 `check` is no option, but what a row checks.
@@ -40,7 +41,7 @@ COUNTS = ["minimumIntegerDigits", "minimumFractionDigits", "maximumFractionDigit
 SCALES = {"percent": 2, "permille": 3}
 PRECISIONS = ["all", "fraction", "multiples", "significant", "more", "less"]
 # What options have beyond those of ECMA-402.
-BEYOND = ["integer", "scientific", "engineering", *PRECISIONS]
+BEYOND = ["integer", "scientific", "engineering", "groupSizes", *PRECISIONS]
 
 
 def field_of(name):
@@ -131,6 +132,8 @@ def set_beyond(struct, options):
             set_precision(struct, name, value)
         elif name == "integer":
             struct.minimum_integer_digits, struct.maximum_integer_digits = pair(value)
+        elif name == "groupSizes":
+            struct.group_sizes = ["locale", "thousands"].index(value)
         elif name in BEYOND:
             digits, sign = value.split(",")
             struct.exponent_digits, struct.exponent_sign = int(digits), ["auto", "always", "never"].index(sign)

@@ -207,9 +207,10 @@ def is_own(made, text):
 
 def is_utf8(text):
     try:
-        return bool(text.decode()) or True
+        text.decode()
     except UnicodeDecodeError:
         return False
+    return True
 
 
 def is_only_text(made, text, value):

@@ -29,7 +29,7 @@ COUNTS = ["{@*65536}", "{@*65537}", "@{#*65535}", "@{#*65536}", ".{0*32768}", ".
           "{.*65536}", "{percent *65536}", "currency/{E*65536}", "numbering-system/{l*65536}", "{/*65536}"]
 DEFAULTS = {"style": "decimal", "currencyDisplay": "symbol", "currencySign": "standard", "currencyUsage": "standard",
             "compactDisplay": "short", "unitDisplay": "short", "decimalSeparator": "auto", "integer": "1,32768", "trailingZeroDisplay": "auto", "signDisplay": "auto",
-            "useGrouping": "auto"}
+            "useGrouping": "auto", "groupSizes": "locale"}
 
 
 def rows(path):
@@ -80,14 +80,12 @@ def unsupported(text, reading, said):
         return "scale"
     if reading.notation in ("scientific", "engineering") and not 1 <= reading.exponent_digits <= 65535:
         return first(text, r"scientific|engineering|E.*")
-    if "no integer digit" in kinds or reading.integer and reading.integer[0] > 32767:
+    if reading.integer and reading.integer[0] > 32767:
         return first(text, r"integer-width(?:-trunc)?|0+")
     if precision(text, reading, said) is None:
         return first(text, r"precision-increment|@.*|\..*")
     if kinds & {"halfOdd", "unnecessary"}:
         return first(text, r"rounding-mode-(?:half-odd|unnecessary)")
-    if "thousands" in kinds:
-        return "group-thousands"
     if "algorithmic" in kinds:
         return "numbering-system"
     return None
@@ -178,11 +176,12 @@ def named(text, reading, said):
         yield "compactDisplay", options["compactDisplay"]
     yield tuple(precision(text, reading, said).split("="))
     low, high = reading.integer or (1, None)
-    yield "integer", f"{low},{min(32768, high or 32768)}"
+    yield "integer", f"{low},{32768 if high is None else min(32768, high)}"
     yield "roundingMode", options["roundingMode"]
     yield "trailingZeroDisplay", "stripIfInteger" if "trailingZeroDisplay" in options else "auto"
     yield "signDisplay", options.get("signDisplay", "auto")
     yield "useGrouping", str(options.get("useGrouping", "auto")).lower()
+    yield "groupSizes", "thousands" if reading.group == "thousands" else "locale"
     yield "decimalSeparator", reading.decimal
     if reading.system:
         yield "numberingSystem", reading.system
