@@ -60,6 +60,8 @@ UNIT_OPTIONS = ["style", "unit", "unitDisplay", "numberingSystem"]
 NEGATIVE = set("-(\u2212\u2010\u2011\u2012\ufe63\uff0d")
 ROOM = ctypes.create_string_buffer(1 << 18)
 PARTS = (TYPES["fd_part"] * (1 << 16))()
+# No calls; C wants no null pointer.
+CALLS = TYPES["fd_call"]()
 
 
 def sized(text):
@@ -269,7 +271,7 @@ def converted(tag, text, reading=None, grouping=None):
     for form, words, word in ((forms.read, READINGS, reading), (forms.format, GROUPINGS, grouping)):
         if word:
             form.count, form.option = size, words.index(word)
-    return written(fd.fd_convert, *sized(text), forms, None, 0, tags, size)
+    return written(fd.fd_convert, *sized(text), forms, CALLS, 0, tags, size)
 
 
 def is_decimal(tag, word, number, text):
@@ -280,7 +282,7 @@ def is_decimal(tag, word, number, text):
         return READ_ERRORS.get(found, found) == text
     if fd.fd_locale(*sized(tag)).status == UNKNOWN_LOCALE:
         return text == "unknown"
-    own = written(fd.fd_run, *sized(number), None, 0, b"", 0)
+    own = written(fd.fd_run, *sized(number), CALLS, 0, b"", 0)
     if converted(tag, number, grouping=word) != text:
         return False
     return all(converted(tag, text, reading=it) == own for it in READINGS)

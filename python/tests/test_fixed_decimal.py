@@ -676,7 +676,7 @@ def test_ranges():
             want += [{"type": name, "value": next(words), "source": source} for name in words]
         found = NumberFormat(locale, **options).format_range_to_parts(start, end)
         check(found == want, locale, options, start, end, found, want)
-    rows = os.path.join(os.path.dirname(os.path.abspath(__file__)), "../../c/tests/ranges.tsv")
+    rows = os.path.join(os.path.dirname(os.path.abspath(__file__)), "../../tests/rows/node_ranges.tsv")
     with open(rows, encoding="utf-8") as file:
         rows = [line.rstrip("\n").split("\t") for line in file if not line.startswith("# ")]
     check(len(rows) > 1000, len(rows))
