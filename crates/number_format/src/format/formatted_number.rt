@@ -430,11 +430,18 @@ impl<'f> FormattedNumber<'f> {
     }
 
     #[inline(always)]
+    fn push_significand(&self, block: &mut Block) -> Result<(), SinkFault>
+        ensures { OnOk result (block.new.0 ≡ block.old.0 ++ significand_text self.now) }
+    {
+        self.push_digits(block)?;
+        self.push_separator(block)
+    }
+
+    #[inline(always)]
     fn put_digits(&self, block: &mut Block) -> Result<(), SinkFault>
         ensures { OnOk result (block.new.0 ≡ block.old.0 ++ number_text self.now) }
     {
-        self.push_digits(block)?;
-        self.push_separator(block)?;
+        self.push_significand(block)?;
         match self.formatter.options.notation {
             NumberNotation::Scientific(options) | NumberNotation::Engineering(options) => {
                 let exponent = shown_exponent(self.alloc, options, self.exponent);

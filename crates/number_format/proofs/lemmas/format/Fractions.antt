@@ -1,11 +1,24 @@
 -- Numbers of which the integer digits are hidden.
-use Rattle.std.proofs.{Common.{◌≡◌, ℕ, zero, suc, ◌+◌, ◌<◌, List, [], ◌++◌, length, sym, ◌∙◌, ap, arith, append_assoc, length-append, refl}, lemmas.Int.ints}
-use Rattle.std.specs.{Prelude.{ℤ, pos, negsuc, ◌-ℤ◌, Bool, true, false}, Int.int_gap}
+use Rattle.std.proofs.{Common.{◌≡◌, ℕ, zero, suc, ◌+◌, ◌<◌, List, [], ◌++◌, length, sym, ◌∙◌, ap, arith, append_assoc, append-nil, length-append, refl}, lemmas.Int.ints}
+use Rattle.std.specs.{Prelude.{Option, Some, None, ℤ, pos, negsuc, ◌-ℤ◌, Bool, true, false}, Int.int_gap, Io.KnownBytes.Appends}
 use Rattle.decimal_digits.specs.Number.{digit}
 use Rattle.decimal_unsigned.specs.Unsigned.{Unsigned}
 use Rattle.decimal_format.specs.{declared.grouping.GroupingStrategy.GroupingStrategy, Formatted.{absolute_text, separator_before, separator_after, shown_count}, Symbols.{Symbols, digit_text}}
 use Rattle.number_format.specs.{declared.format.text_part.PartKind.TheVariants.Integer, FormattedNumbers.{digits_text, fraction_magnitude}, TextParts.{digit_if, first_pieces, magnitude_pieces, pieces_text}}
 use Rattle.number_format.proofs.lemmas.format.PieceTexts.{first_pieces-more, some_of_digits, text-append, text-of_digits, text-of_magnitude}
+
+-- a sink that takes nothing, and one that takes a text and then another
+pub appends_nil : (a : Option (List ℕ)) (xs : List ℕ) → xs ≡ [] → Appends a a xs
+appends_nil None xs e = tt
+appends_nil (Some bytes) xs e = sym (append-nil bytes) ∙ ap (λ l. bytes ++ l) (sym e)
+
+pub appends_trans : (a b c : Option (List ℕ)) (xs ys zs : List ℕ) → zs ≡ xs ++ ys → Appends a b xs → Appends b c ys
+    → Appends a c zs
+appends_trans None b c xs ys zs e p q = tt
+appends_trans (Some x) None c xs ys zs e p q = absurd p
+appends_trans (Some x) (Some y) None xs ys zs e p q = absurd q
+appends_trans (Some x) (Some y) (Some z) xs ys zs e p q =
+    q ∙ ap (λ l. l ++ ys) p ∙ append_assoc x xs ys ∙ ap (λ l. x ++ l) (sym e)
 
 module _ (s : Symbols) (strategy : GroupingStrategy) (v : Unsigned) where
   -- the text of the given number of magnitudes, and of one of them
@@ -37,7 +50,7 @@ module _ (s : Symbols) (strategy : GroupingStrategy) (v : Unsigned) where
             ∙ ap pieces_text is,
       )
 
-  none : (hidden : Bool) → text hidden 0 ≡ []
+  pub none : (hidden : Bool) → text hidden 0 ≡ []
   unfolding first_pieces
   none hidden = refl
 
