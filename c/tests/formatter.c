@@ -325,7 +325,7 @@ static void test_resolved(void) {
     CHECK(r.options.grouping == FD_GROUP_ALWAYS && r.options.group_sizes == FD_GROUPS_OF_THREE);
     CHECK(r.options.minimum_integer_digits == 0 && r.options.maximum_integer_digits == 2);
     f.options.group_sizes = 2;
-    CHECK(!is_formatter(&f));
+    CHECK(fd_resolved(&f).status == FD_FORMATTER);
 }
 
 static void test_status_texts(void) {

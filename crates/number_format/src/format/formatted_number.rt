@@ -438,10 +438,10 @@ impl<'f> FormattedNumber<'f> {
     }
 
     #[inline(always)]
-    fn put_digits(&self, block: &mut Block) -> Result<(), SinkFault>
-        ensures { OnOk result (block.new.0 ≡ block.old.0 ++ number_text self.now) }
+    fn push_shown_exponent(&self, block: &mut Block) -> Result<(), SinkFault>
+        ensures { OnOk result (block.new.0 ≡ block.old.0 ++ exponent_text self.now.formatter.now
+            (exponent_of self.now.formatter.now.options.notation self.now.exponent)) }
     {
-        self.push_significand(block)?;
         match self.formatter.options.notation {
             NumberNotation::Scientific(options) | NumberNotation::Engineering(options) => {
                 let exponent = shown_exponent(self.alloc, options, self.exponent);
@@ -449,6 +449,14 @@ impl<'f> FormattedNumber<'f> {
             }
             _ => Ok(()),
         }
+    }
+
+    #[inline(always)]
+    fn put_digits(&self, block: &mut Block) -> Result<(), SinkFault>
+        ensures { OnOk result (block.new.0 ≡ block.old.0 ++ number_text self.now) }
+    {
+        self.push_significand(block)?;
+        self.push_shown_exponent(block)
     }
 
     fn put_compact(&self, pattern: &CompactPattern, block: &mut Block) -> Result<(), SinkFault>
