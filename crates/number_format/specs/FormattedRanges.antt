@@ -1,9 +1,9 @@
 -- The text of a formatted range.
-use Rattle.std.specs.Prelude.{◌≡◌, ◌⊎◌, ℕ, List, ◌++◌, Option, Some}
+use Rattle.std.specs.Prelude.{◌≡◌, ◌⊎◌, ℕ, Bool, if◌then◌else◌, List, ◌++◌, Option, Some}
 use Rattle.fixed_decimal.specs.Decimal.{Decimal}
 use Rattle.plural_rules.specs.declared.rules.PluralCategory.{PluralCategory}
 use Rattle.locale_data.specs.{declared.locales.LocaleId.LocaleId, Locales.AreRowsOf, RangeFormats.IsRangeFormat}
-use Rattle.number_format.specs.{declared.{format.{formatted_number.FormattedNumber.FormattedNumber, formatter.NumberFormatter.NumberFormatter}, range.{affixes.ApproximateAffixes.ApproximateAffixes, formatted_range.{FormattedRange.FormattedRange, RangeSegment.{RangeSegment, TheVariants.{Prefix, Start, Middle, End, Suffix}}, RangeSource.{RangeSource, TheVariants.{Shared, StartRange, EndRange}}}, range_texts.RangeTexts.RangeTexts, segment.Segment.Segment}}, Formatters.system_text, FormattedNumbers.{number_pieces_if, number_text_if, pattern_of}, NumberText.outer_by, PatternTexts.Around, RangeText.{IsRangeEnd, RangeEnd, RangePieces, ShownRange, range_pieces, text_of_pieces}, TextParts.{Piece, parts_pieces, parts_text, pieces_of, pieces_text}}
+use Rattle.number_format.specs.{declared.{format.{outer.OuterAround.OuterAround, formatted_number.FormattedNumber.FormattedNumber, formatter.NumberFormatter.NumberFormatter}, range.{affixes.WideAffixes.WideAffixes, formatted_range.{FormattedRange.FormattedRange, RangeSegment.{RangeSegment, TheVariants.{Prefix, Start, Middle, End, Suffix}}, RangeSource.{RangeSource, TheVariants.{Shared, StartRange, EndRange}}}, range_texts.RangeTexts.RangeTexts, segment.Segment.Segment}}, Formatters.system_text, FormattedNumbers.{number_pieces_if, number_text_if, pattern_of}, NumberText.outer_by, PatternTexts.Around, RangeText.{IsRangeEnd, RangeEnd, RangePieces, ShownRange, range_pieces, text_of_pieces}, TextParts.{Piece, parts_pieces, parts_text, pieces_of, pieces_text}}
 
 -- ---- The texts of a locale.
 
@@ -68,22 +68,30 @@ text_from_middle t =
     let text = λ (segment : RangeSegment). pieces_text (formatted_range_pieces t segment) in
     text Middle ++ (text End ++ text Suffix)
 
--- the parts are what is around an approximate number
-pub record AreApproximateAffixes (a : Around) (shown : ApproximateAffixes) : Type 0 where
+-- the parts are what is around a number
+pub record AreWideAffixes (a : Around) (shown : WideAffixes) : Type 0 where
   pub prefix : parts_pieces shown.prefix ≡ a.prefix
   pub has_number : shown.has_number ≡ a.has_number
   pub suffix : parts_pieces shown.suffix ≡ a.suffix
 
--- the texts of one kind are one piece
+-- what is before the whole text, or after it; its texts are one piece
+abbrev pub outer_text : OuterAround → Bool → List ℕ
+outer_text u is_after = if is_after then parts_text u.after else parts_text u.before
+
+abbrev pub outer_pieces : OuterAround → Bool → List Piece
+outer_pieces u is_after = pieces_of u.kind (outer_text u is_after)
+
 abbrev pub segment_pieces : Segment → List Piece
 segment_pieces s =
-    parts_pieces s.prefix
-    ++ (number_pieces_if s.number.now s.has_number ++ (parts_pieces s.suffix ++ pieces_of s.kind (parts_text s.texts)))
+    parts_pieces s.affixes.prefix
+    ++ (number_pieces_if s.number.now s.affixes.has_number
+    ++ (parts_pieces s.affixes.suffix ++ outer_pieces s.outer s.is_after))
 
 abbrev pub segment_text : Segment → List ℕ
 segment_text s =
-    parts_text s.prefix
-    ++ (number_text_if s.number.now s.has_number ++ (parts_text s.suffix ++ parts_text s.texts))
+    parts_text s.affixes.prefix
+    ++ (number_text_if s.number.now s.affixes.has_number
+    ++ (parts_text s.affixes.suffix ++ outer_text s.outer s.is_after))
 
 -- a formatted number is an end of a range, and has the category of what is around the whole text
 abbrev pub IsFormattedEnd : NumberFormatter → Decimal → FormattedNumber → Type 0

@@ -143,8 +143,8 @@ has_spaces other = false
 -- the separator, between two spaces if they are needed and it has none of its own
 abbrev pub separator_pieces : RangeSeparator → Bool → List parts.Piece
 separator_pieces s needed =
-    let space = if needed && not (has_spaces s) then 32 ∷ [] else [] in
-    literal (space ++ (range_texts.separator_text s ++ space))
+    let space = literal (if needed && not (has_spaces s) then 32 ∷ [] else []) in
+    space ++ (literal (range_texts.separator_text s) ++ space)
 
 -- ---- An approximate number.
 

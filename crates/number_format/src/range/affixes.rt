@@ -1,9 +1,10 @@
 //! What is written around an approximate number.
-ghost use Rattle.std.specs.{Prelude.{◌≡◌, ◌++◌, [], IfSome, true, false}, Option.option_copied};
+ghost use Rattle.std.specs.{Prelude.{◌≡◌, ◌≤◌, ◌++◌, [], length, IfSome}, Option.option_copied};
 ghost use Rattle.locale_data.specs.Compact.{AreTexts};
-ghost use Rattle.number_format.specs.{FormattedRanges.AreApproximateAffixes, PatternTexts.{affix_pieces, sign_pieces}, RangeText.{approximately_pieces, approximate_affixes, approximate_around, approximate_compact, approximate_pattern, approximate_piece, is_sign_last, pieces_if}, TextParts.{part_pieces, parts_pieces}};
+ghost use Rattle.number_format.specs.{FormattedNumbers.{around_of, pattern_of}, FormattedRanges.AreWideAffixes, PatternTexts.{affix_pieces, sign_pieces}, RangeText.{approximately_pieces, approximate_affixes, approximate_around, approximate_compact, approximate_pattern, approximate_piece, is_sign_last, pieces_if}, TextParts.{part_pieces, parts_pieces}};
 
 use crate::format::affixes::{StyleTexts, space_if};
+use crate::format::formatted_number::FormattedNumber;
 use crate::format::text_part::{PartKind, TextPart};
 use fixed_decimal::Sign;
 use locale_data::{Affix, AffixPair, ApproximatelySign, CompactForm, CompactPattern, Piece};
@@ -14,12 +15,31 @@ pub(crate) const NOTHING: TextPart<'static> = TextPart {
     text: "",
 };
 
-/// The parts before and after an approximate number.
+/// The parts before and after a number, exact or approximate.
 #[derive(Clone, Copy)]
-pub(crate) struct ApproximateAffixes<'f> {
+pub(crate) struct WideAffixes<'f> {
     pub(crate) prefix: [TextPart<'f>; 10],
     pub(crate) has_number: bool,
     pub(crate) suffix: [TextPart<'f>; 10],
+}
+
+/// Returns no parts.
+pub(crate) fn no_parts<'f>() -> [TextPart<'f>; 10]
+    ensures { parts_pieces result ≡ [] }
+{
+    [
+        NOTHING, NOTHING, NOTHING, NOTHING, NOTHING, NOTHING, NOTHING, NOTHING, NOTHING, NOTHING,
+    ]
+}
+
+/// Returns parts, and empty ones after them.
+pub(crate) fn wide<'f>(parts: &[TextPart<'f>]) -> [TextPart<'f>; 10]
+    requires { length parts.now ≤ 10 }
+    ensures { parts_pieces result ≡ parts_pieces parts.now }
+{
+    let mut wide = no_parts();
+    wide[..parts.len()].copy_from_slice(parts);
+    wide
 }
 
 fn approximately_part(approximately: ApproximatelySign) -> TextPart<'static>
@@ -84,17 +104,13 @@ impl StyleTexts {
         ]
     }
 
-    fn approximate_pattern(
-        &self,
-        approximately: ApproximatelySign,
-        sign: Sign,
-    ) -> ApproximateAffixes<'_>
-        ensures { AreApproximateAffixes (approximate_pattern self.now approximately sign) result }
+    fn approximate_pattern(&self, approximately: ApproximatelySign, sign: Sign) -> WideAffixes<'_>
+        ensures { AreWideAffixes (approximate_pattern self.now approximately sign) result }
     {
         let AffixPair { prefix, suffix } = self.approximate_pair(sign);
         let after = space_if(self.needs_space_after(prefix));
         let before = space_if(self.needs_space_before(suffix));
-        ApproximateAffixes {
+        WideAffixes {
             prefix: self.approximate_parts(approximately, sign, prefix, NOTHING, after),
             has_number: true,
             suffix: self.approximate_parts(approximately, sign, suffix, before, NOTHING),
@@ -123,9 +139,9 @@ impl StyleTexts {
         approximately: ApproximatelySign,
         sign: Sign,
         pattern: &CompactPattern,
-    ) -> ApproximateAffixes<'_>
+    ) -> WideAffixes<'_>
         requires { AreTexts pattern.now }
-        ensures { AreApproximateAffixes (approximate_compact self.now approximately sign pattern.now) result }
+        ensures { AreWideAffixes (approximate_compact self.now approximately sign pattern.now) result }
     {
         let CompactPattern {
             form,
@@ -135,7 +151,7 @@ impl StyleTexts {
         } = *pattern;
         let first = self.approximate_sign(approximately, sign, !is_sign_last(form));
         let last = self.approximate_sign(approximately, sign, is_sign_last(form));
-        ApproximateAffixes {
+        WideAffixes {
             prefix: [
                 first.0,
                 first.1,
@@ -164,15 +180,14 @@ impl StyleTexts {
         }
     }
 
-    /// Returns the parts around a number, with an approximately sign.
-    pub(crate) fn approximate_affixes(
+    fn approximate_affixes(
         &self,
         approximately: ApproximatelySign,
         sign: Sign,
         compact: Option<&CompactPattern>,
-    ) -> ApproximateAffixes<'_>
+    ) -> WideAffixes<'_>
         requires { IfSome compact (λ pattern. AreTexts pattern.now) }
-        ensures { AreApproximateAffixes
+        ensures { AreWideAffixes
             (approximate_around self.now approximately sign (option_copied compact.entry)) result }
     {
         match compact {
@@ -181,5 +196,30 @@ impl StyleTexts {
             }
             _ => self.approximate_pattern(approximately, sign),
         }
+    }
+}
+
+impl FormattedNumber<'_> {
+    /// Returns the parts around the number.
+    pub(crate) fn wide_affixes(&self) -> WideAffixes<'_>
+        ensures { AreWideAffixes (around_of self.now) result }
+    {
+        let affixes = self.affixes();
+        let prefix = wide(&affixes.prefix);
+        let suffix = wide(&affixes.suffix);
+        WideAffixes {
+            prefix,
+            has_number: affixes.has_number,
+            suffix,
+        }
+    }
+
+    /// Returns the parts around the number, with an approximately sign.
+    pub(crate) fn approximate_affixes(&self, approximately: ApproximatelySign) -> WideAffixes<'_>
+        ensures { AreWideAffixes (approximate_around self.now.formatter.now.style approximately
+            self.now.value.sign (pattern_of self.now)) result }
+    {
+        let style = &self.formatter.style;
+        style.approximate_affixes(approximately, self.value.sign, self.compact_pattern())
     }
 }

@@ -1,15 +1,14 @@
 //! A range of two numbers as a locale writes it.
 ghost use Rattle.std.specs.{Prelude.{◌≡◌, ◌≤◌, length, Some, OnOk, OnErr, true}, Fmt.WritesStyledOnOk, Io.KnownBytes.Appends};
 ghost use Rattle.decimal_digits.specs.AppendsPrefix.{AppendsPrefix};
-ghost use Rattle.number_format.specs.{FormattedNumbers.{outer_of, IsOuter}, FormattedRanges.{formatted_range_pieces, formatted_range_text, pieces_in, segment_pieces, segment_text, shown_range, source_of, text_from_middle}, RangeText.{pieces_by, pieces_if, separator_pieces}, TextParts.{Puts, PutsPrefix, pieces_text}};
+ghost use Rattle.number_format.specs.{FormattedNumbers.{outer_of, IsOuter}, FormattedRanges.{formatted_range_pieces, formatted_range_text, pieces_in, segment_pieces, segment_text, shown_range, source_of, text_from_middle}, RangeText.pieces_by, TextParts.{Puts, PutsPrefix, pieces_text}};
 ghost use Rattle.number_format.specs.declared.range.form.RangeForm.TheVariants as form;
 
 use crate::format::formatted_number::FormattedNumber;
 use crate::format::outer::OuterAround;
 use crate::format::parts::PartSink;
-use crate::format::text_part::PartKind;
 use crate::range::form::RangeForm;
-use crate::range::segment::{Segment, separator_texts};
+use crate::range::segment::Segment;
 use fixed_decimal::{Sink, SinkFault, Writeable};
 use locale_data::RangeFormat;
 use std::fmt;
@@ -103,25 +102,13 @@ impl<'f> FormattedRange<'f> {
         let outer = self.outer();
         let start = &self.start;
         match segment {
-            RangeSegment::Prefix => Segment::shared(start, &[], outer.kind, outer.before),
+            RangeSegment::Prefix => Segment::shared(start, &[], outer, false),
             RangeSegment::Middle if outer.has_number => {
                 Segment::approximate(start, self.format.approximately)
             }
-            RangeSegment::Suffix => Segment::shared(start, &[], outer.kind, outer.after),
+            RangeSegment::Suffix => Segment::shared(start, &[], outer, true),
             _ => Segment::digits_if(start, false),
         }
-    }
-
-    fn separator_if(&self, shown: bool) -> Segment<'_, 'f>
-        ensures { segment_pieces result
-            ≡ pieces_if shown (separator_pieces self.now.format.separator self.now.spaced) }
-    {
-        let start = &self.start;
-        if !shown {
-            return Segment::digits_if(start, false);
-        }
-        let texts = separator_texts(self.format.separator, self.spaced);
-        Segment::shared(start, &[], PartKind::Literal, texts)
     }
 
     fn common_segment(&self, segment: RangeSegment) -> Segment<'_, 'f>
@@ -132,16 +119,16 @@ impl<'f> FormattedRange<'f> {
         let affixes = start.affixes();
         let shown = outer.has_number && affixes.has_number;
         match segment {
-            RangeSegment::Prefix => {
-                Segment::shared(start, &affixes.prefix, outer.kind, outer.before)
-            }
+            RangeSegment::Prefix => Segment::shared(start, &affixes.prefix, outer, false),
             RangeSegment::Start => Segment::digits_if(start, shown),
-            RangeSegment::Middle => self.separator_if(shown),
+            RangeSegment::Middle => {
+                Segment::separator_if(start, self.format.separator, self.spaced, shown)
+            }
             RangeSegment::End => Segment::digits_if(&self.end, shown),
             RangeSegment::Suffix if outer.has_number => {
-                Segment::shared(start, &affixes.suffix, outer.kind, outer.after)
+                Segment::shared(start, &affixes.suffix, outer, true)
             }
-            RangeSegment::Suffix => Segment::shared(start, &[], outer.kind, outer.after),
+            RangeSegment::Suffix => Segment::shared(start, &[], outer, true),
         }
     }
 
@@ -150,12 +137,15 @@ impl<'f> FormattedRange<'f> {
     {
         let outer = self.outer();
         let start = &self.start;
+        let shown = outer.has_number;
         match segment {
-            RangeSegment::Prefix => Segment::shared(start, &[], outer.kind, outer.before),
-            RangeSegment::Start => Segment::number_if(start, outer.has_number),
-            RangeSegment::Middle => self.separator_if(outer.has_number),
-            RangeSegment::End => Segment::number_if(&self.end, outer.has_number),
-            RangeSegment::Suffix => Segment::shared(start, &[], outer.kind, outer.after),
+            RangeSegment::Prefix => Segment::shared(start, &[], outer, false),
+            RangeSegment::Start => Segment::number_if(start, shown),
+            RangeSegment::Middle => {
+                Segment::separator_if(start, self.format.separator, self.spaced, shown)
+            }
+            RangeSegment::End => Segment::number_if(&self.end, shown),
+            RangeSegment::Suffix => Segment::shared(start, &[], outer, true),
         }
     }
 

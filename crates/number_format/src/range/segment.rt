@@ -1,27 +1,44 @@
 //! Segments of the text of a range.
-ghost use Rattle.std.specs.{Prelude.{◌≡◌, ◌≤◌, ◌++◌, [], length, OnOk, OnErr, true}, Fmt.WritesStyledOnOk, Io.KnownBytes.Appends};
+ghost use Rattle.std.specs.{Prelude.{◌≡◌, ◌≤◌, ◌++◌, [], length, OnOk, OnErr, true, false}, Fmt.WritesStyledOnOk, Io.KnownBytes.Appends};
 ghost use Rattle.decimal_digits.specs.AppendsPrefix.{AppendsPrefix};
-ghost use Rattle.number_format.specs.{FormattedNumbers.{inner_pieces_if, number_pieces, number_pieces_if, pattern_of}, FormattedRanges.{segment_pieces, segment_text}, PatternTexts.within, RangeText.{approximate_around, has_spaces, separator_pieces}, TextParts.{parts_pieces, parts_text, pieces_of, Puts, PutsPrefix}};
-ghost use Rattle.number_format.specs.declared.format.text_part.PartKind.TheVariants.{Literal};
+ghost use Rattle.number_format.specs.{FormattedNumbers.{inner_pieces_if, number_pieces, number_pieces_if, pattern_of}, FormattedRanges.{outer_pieces, outer_text, segment_pieces, segment_text}, PatternTexts.within, RangeText.{approximate_around, has_spaces, pieces_if, separator_pieces}, TextParts.{parts_pieces, parts_text, Puts, PutsPrefix}};
 
 use crate::format::formatted_number::FormattedNumber;
-use crate::format::outer::put_outer;
+use crate::format::outer::{OuterAround, put_outer};
 use crate::format::parts::{PartSink, fmt_parts, parts_length, put_parts, write_parts};
 use crate::format::text_part::{PartKind, TextPart};
-use crate::range::affixes::NOTHING;
+use crate::range::affixes::{NOTHING, WideAffixes, no_parts, wide};
 use fixed_decimal::{Sink, SinkFault};
 use locale_data::{ApproximatelySign, RangeSeparator};
 use std::fmt;
 
-/// A segment of the text of a range: the digits of a number between parts, and texts of one kind.
+/// A segment of the text of a range: a number between parts, and what is before or after the whole text.
 #[derive(Clone, Copy)]
 pub(crate) struct Segment<'r, 'f> {
-    prefix: [TextPart<'r>; 10],
-    number: &'r FormattedNumber<'f>,
-    has_number: bool,
-    suffix: [TextPart<'r>; 10],
-    kind: PartKind,
-    texts: [TextPart<'r>; 4],
+    pub(crate) affixes: WideAffixes<'r>,
+    pub(crate) number: &'r FormattedNumber<'f>,
+    pub(crate) outer: OuterAround<'r>,
+    /// Whether it is after the whole text.
+    pub(crate) is_after: bool,
+}
+
+fn no_texts<'r>() -> [TextPart<'r>; 4]
+    ensures { parts_text result ≡ [] }
+{
+    [NOTHING, NOTHING, NOTHING, NOTHING]
+}
+
+fn no_outer<'r>() -> OuterAround<'r>
+    ensures { outer_pieces result false ≡ [] }
+{
+    let before = no_texts();
+    let after = no_texts();
+    OuterAround {
+        kind: PartKind::Literal,
+        before,
+        has_number: true,
+        after,
+    }
 }
 
 fn has_spaces(separator: RangeSeparator) -> bool
@@ -34,73 +51,54 @@ fn has_spaces(separator: RangeSeparator) -> bool
 }
 
 /// Returns a separator, with spaces beside it if it needs them and has none.
-pub(crate) fn separator_texts(
-    separator: RangeSeparator,
-    needs_spaces: bool,
-) -> [TextPart<'static>; 4]
-    ensures { pieces_of Literal (parts_text result) ≡ separator_pieces separator needs_spaces }
+fn separator_parts<'r>(separator: RangeSeparator, needs_spaces: bool) -> [TextPart<'r>; 3]
+    ensures { parts_pieces result ≡ separator_pieces separator needs_spaces }
 {
     let spaced = needs_spaces && !has_spaces(separator);
     let space = TextPart::new(PartKind::Literal, if spaced { " " } else { "" });
-    let text = TextPart::new(PartKind::Literal, separator.text());
-    [space, text, space, NOTHING]
-}
-
-fn no_parts() -> [TextPart<'static>; 10]
-    ensures { parts_pieces result ≡ [] }
-{
-    [NOTHING; 10]
-}
-
-fn wide<'r>(parts: &[TextPart<'r>]) -> [TextPart<'r>; 10]
-    requires { length parts.now ≤ 10 }
-    ensures { parts_pieces result ≡ parts_pieces parts.now }
-{
-    let mut wide = [NOTHING; 10];
-    wide[..parts.len()].copy_from_slice(parts);
-    wide
+    [
+        space,
+        TextPart::new(PartKind::Literal, separator.text()),
+        space,
+    ]
 }
 
 impl<'r, 'f> Segment<'r, 'f> {
-    fn between(
-        prefix: [TextPart<'r>; 10],
-        number: &'r FormattedNumber<'f>,
-        has_number: bool,
-        suffix: [TextPart<'r>; 10],
-    ) -> Self
-        ensures { segment_pieces result ≡ parts_pieces prefix.entry
-            ++ (number_pieces_if number.now has_number ++ parts_pieces suffix.entry) }
+    fn between(number: &'r FormattedNumber<'f>, affixes: WideAffixes<'r>) -> Self
+        ensures { segment_pieces result ≡ parts_pieces affixes.entry.prefix
+            ++ (number_pieces_if number.now affixes.entry.has_number ++ parts_pieces affixes.entry.suffix) }
     {
-        let texts = [NOTHING; 4];
+        let outer = no_outer();
         Segment {
-            prefix,
+            affixes,
             number,
-            has_number,
-            suffix,
-            kind: PartKind::Literal,
-            texts,
+            outer,
+            is_after: false,
         }
     }
 
-    /// Returns the segment of parts, and of texts of one kind after them.
+    /// Returns the segment of parts, and of what is before or after the whole text.
     pub(crate) fn shared(
         number: &'r FormattedNumber<'f>,
         parts: &[TextPart<'r>],
-        kind: PartKind,
-        texts: [TextPart<'r>; 4],
+        outer: OuterAround<'r>,
+        is_after: bool,
     ) -> Self
         requires { length parts.now ≤ 10 }
-        ensures { segment_pieces result ≡ parts_pieces parts.now ++ pieces_of kind (parts_text texts.entry) }
+        ensures { segment_pieces result ≡ parts_pieces parts.now ++ outer_pieces outer.entry is_after }
     {
         let prefix = wide(parts);
         let suffix = no_parts();
-        Segment {
+        let affixes = WideAffixes {
             prefix,
-            number,
             has_number: false,
             suffix,
-            kind,
-            texts,
+        };
+        Segment {
+            affixes,
+            number,
+            outer,
+            is_after,
         }
     }
 
@@ -108,7 +106,31 @@ impl<'r, 'f> Segment<'r, 'f> {
     pub(crate) fn digits_if(number: &'r FormattedNumber<'f>, has_number: bool) -> Self
         ensures { segment_pieces result ≡ number_pieces_if number.now has_number }
     {
-        Self::between(no_parts(), number, has_number, no_parts())
+        let prefix = no_parts();
+        let suffix = no_parts();
+        let affixes = WideAffixes {
+            prefix,
+            has_number,
+            suffix,
+        };
+        Self::between(number, affixes)
+    }
+
+    /// Returns the segment of a separator, or one without pieces.
+    pub(crate) fn separator_if(
+        number: &'r FormattedNumber<'f>,
+        separator: RangeSeparator,
+        needs_spaces: bool,
+        shown: bool,
+    ) -> Self
+        ensures { segment_pieces result ≡ pieces_if shown (separator_pieces separator needs_spaces) }
+    {
+        if !shown {
+            return Self::digits_if(number, false);
+        }
+        let parts = separator_parts(separator, needs_spaces);
+        let outer = no_outer();
+        Self::shared(number, &parts, outer, false)
     }
 
     /// Returns the segment of a number with its own affixes, or one without pieces.
@@ -118,10 +140,8 @@ impl<'r, 'f> Segment<'r, 'f> {
         if !shown {
             return Self::digits_if(number, false);
         }
-        let affixes = number.affixes();
-        let prefix = wide(&affixes.prefix);
-        let suffix = wide(&affixes.suffix);
-        Self::between(prefix, number, affixes.has_number, suffix)
+        let affixes = number.wide_affixes();
+        Self::between(number, affixes)
     }
 
     /// Returns the segment of a number with an approximately sign.
@@ -133,10 +153,18 @@ impl<'r, 'f> Segment<'r, 'f> {
             (approximate_around number.now.formatter.now.style approximately number.now.value.sign
             (pattern_of number.now)) (number_pieces number.now) }
     {
-        let style = &number.formatter.style;
-        let pattern = number.compact_pattern();
-        let affixes = style.approximate_affixes(approximately, number.value.sign, pattern);
-        Self::between(affixes.prefix, number, affixes.has_number, affixes.suffix)
+        let affixes = number.approximate_affixes(approximately);
+        Self::between(number, affixes)
+    }
+
+    fn outer_texts(&self) -> &[TextPart<'r>; 4]
+        ensures { parts_text result.now ≡ outer_text self.now.outer self.now.is_after }
+    {
+        if self.is_after {
+            &self.outer.after
+        } else {
+            &self.outer.before
+        }
     }
 
     /// Appends the text.
@@ -146,20 +174,20 @@ impl<'r, 'f> Segment<'r, 'f> {
             (AppendsPrefix (W.contents sink.old) (W.contents sink.new) (segment_text self.now)) }
         ensures failed { OnErr result (W.has_failed sink.new ≡ true) }
     {
-        write_parts(&self.prefix, sink)?;
-        self.number.write_number_if(self.has_number, sink)?;
-        write_parts(&self.suffix, sink)?;
-        write_parts(&self.texts, sink)
+        write_parts(&self.affixes.prefix, sink)?;
+        self.number.write_number_if(self.affixes.has_number, sink)?;
+        write_parts(&self.affixes.suffix, sink)?;
+        write_parts(self.outer_texts(), sink)
     }
 
     /// Writes the text.
     pub(crate) fn fmt<W: fmt::Write>(&self, f: &mut fmt::Formatter<W>) -> fmt::Result
         ensures { WritesStyledOnOk W.write_str_gives f.old result (segment_text self.now) f.new }
     {
-        fmt_parts(&self.prefix, f)?;
-        self.number.fmt_number_if(self.has_number, f)?;
-        fmt_parts(&self.suffix, f)?;
-        fmt_parts(&self.texts, f)
+        fmt_parts(&self.affixes.prefix, f)?;
+        self.number.fmt_number_if(self.affixes.has_number, f)?;
+        fmt_parts(&self.affixes.suffix, f)?;
+        fmt_parts(self.outer_texts(), f)
     }
 
     /// Returns the number of bytes of the text.
@@ -167,12 +195,15 @@ impl<'r, 'f> Segment<'r, 'f> {
         ensures value { result ≡ length (segment_text self.now) }
         ensures at_most { result ≤ 17243363 }
     {
-        let number = if self.has_number {
+        let number = if self.affixes.has_number {
             self.number.number_length()
         } else {
             0
         };
-        parts_length(&self.prefix) + number + parts_length(&self.suffix) + parts_length(&self.texts)
+        parts_length(&self.affixes.prefix)
+            + number
+            + parts_length(&self.affixes.suffix)
+            + parts_length(self.outer_texts())
     }
 
     /// Puts the pieces.
@@ -181,9 +212,9 @@ impl<'r, 'f> Segment<'r, 'f> {
         ensures err { OnErr result (PutsPrefix (P.pieces sink.old) (P.pieces sink.new) (segment_pieces self.now)) }
         ensures failed { OnErr result (P.has_failed sink.new ≡ true) }
     {
-        put_parts(sink, &self.prefix)?;
-        self.number.put_number_if(self.has_number, sink)?;
-        put_parts(sink, &self.suffix)?;
-        put_outer(sink, self.kind, &self.texts)
+        put_parts(sink, &self.affixes.prefix)?;
+        self.number.put_number_if(self.affixes.has_number, sink)?;
+        put_parts(sink, &self.affixes.suffix)?;
+        put_outer(sink, self.outer.kind, self.outer_texts())
     }
 }

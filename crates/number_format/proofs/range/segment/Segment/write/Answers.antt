@@ -1,6 +1,6 @@
 use Rattle.std.proofs.{Common.◌++◌, lemmas.Result.on_err_weaker}
 use Rattle.fixed_decimal.proofs.Calling.{on_err, prefix_more, then_prefix}
-use Rattle.number_format.specs.{FormattedNumbers.number_text_if, TextParts.parts_text}
+use Rattle.number_format.specs.{FormattedNumbers.number_text_if, FormattedRanges.outer_text, TextParts.parts_text}
 use Rattle.number_format.proofs.range.segment.Segment.write.Goals as goal
 
 pub returns-in_err-write_parts-clause-err : goal.returns-in_err-write_parts-clause-err
@@ -23,10 +23,10 @@ returns-in_err-write_parts-2-clause-err g c =
 pub returns-clause-err : goal.returns-clause-err
 returns-clause-err g c =
     let s = c.args.self.now in
-    let after = parts_text s.suffix ++ parts_text s.texts in
+    let after = parts_text s.affixes.suffix ++ outer_text s.outer s.is_after in
     on_err_weaker c.write_parts-3.result
-    (λ p. then_prefix _ _ _ (parts_text s.prefix) (number_text_if s.number.now s.has_number ++ after)
+    (λ p. then_prefix _ _ _ (parts_text s.affixes.prefix) (number_text_if s.number.now s.affixes.has_number ++ after)
     c.in_ok-write_parts.ensures.ok
-    (then_prefix _ _ _ (number_text_if s.number.now s.has_number) after c.in_ok-write_number_if.ensures.ok
-    (then_prefix _ _ _ (parts_text s.suffix) (parts_text s.texts) c.in_ok-write_parts-2.ensures.ok p)))
+    (then_prefix _ _ _ (number_text_if s.number.now s.affixes.has_number) after c.in_ok-write_number_if.ensures.ok
+    (then_prefix _ _ _ (parts_text s.affixes.suffix) (outer_text s.outer s.is_after) c.in_ok-write_parts-2.ensures.ok p)))
     c.write_parts-3.ensures.err
