@@ -14,4 +14,5 @@ returns-in-Ok c =
 pub returns-in-Err : goal.returns-in-Err
 returns-in-Err c =
     let failed = c.in-Err.failed in
-    inr (c.error_of_range.result, refl, (failed.at_end, failed.error, c.in-Err.ensures.fails, c.error_of_range.ensures), refl, refl, refl)
+    let fails = (failed.at_end, failed.error, c.in-Err.ensures.fails, c.error_of_range.ensures) in
+    inr (c.error_of_range.result, refl, fails, refl, refl, refl)

@@ -8,4 +8,5 @@ returns-in-Ok c = inl (formatted_range_text c.in-Ok.range, c.in-Ok.ensures.text,
 pub returns-in-Err : goal.returns-in-Err
 returns-in-Err c =
     let failed = c.in-Err.failed in
-    inr (c.error_of_range.result, refl, (failed.at_end, failed.error, c.in-Err.ensures.fails, c.error_of_range.ensures), refl)
+    let fails = (failed.at_end, failed.error, c.in-Err.ensures.fails, c.error_of_range.ensures) in
+    inr (c.error_of_range.result, refl, fails, refl)
