@@ -31,4 +31,4 @@ returns-clause-err g c =
     (then_prefix _ _ _ (number_pieces_if s.number.now a.has_number) after c.in_ok-put_number_if.ensures.ok
     (then_prefix _ _ _ (parts_pieces a.suffix) (outer_pieces s.outer s.is_after)
     c.in_ok-put_parts-2.ensures.ok p)))
-    c.put_outer.ensures.err
+    (rw c.outer_texts.ensures at c.put_outer.ensures.err)

@@ -30,4 +30,4 @@ returns-clause-err g c =
     c.in_ok-write_parts.ensures.ok
     (then_prefix _ _ _ (number_text_if s.number.now a.has_number) after c.in_ok-write_number_if.ensures.ok
     (then_prefix _ _ _ (parts_text a.suffix) (outer_text s.outer s.is_after) c.in_ok-write_parts-2.ensures.ok p)))
-    c.write_parts-3.ensures.err
+    (rw c.outer_texts.ensures at c.write_parts-3.ensures.err)
