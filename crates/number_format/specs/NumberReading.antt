@@ -4,7 +4,7 @@ use Rattle.decimal_unsigned.specs.declared.error.ParseError.{ParseError, TheVari
 use Rattle.fixed_decimal.specs.{Decimal.Decimal, declared.variations.Sign.Sign}
 use Rattle.plural_rules.specs.declared.rules.PluralCategory.{PluralCategory}
 use Rattle.decimal_format.specs.{Readable.IsReadable, Symbols.{Affixes, affixes}, declared.reader.alternatives.Alternative.Alternative}
-use Rattle.number_format.specs.{declared.{digits.options.DigitOptions.DigitOptions, format.{outer.OuterTexts.OuterTexts, formatter.NumberFormatter.NumberFormatter}, options.{DecimalSeparatorDisplay.DecimalSeparatorDisplay, NumberNotation.NumberNotation, NumberStyle.NumberStyle}, read.{pattern.{NumberPattern.NumberPattern, TheConstants.{SIGN_KEYS, CATEGORY_KEYS}}, scientific.ExponentForm.ExponentForm, number_reader.{NumberReaderError.NumberReaderError, ParseMode.{ParseMode, TheVariants.{Strict, Lenient}}}}}, AffixedTexts.{AreNamed, Reader, IsReadExactly, IsReadTyped}, NumberText.{compact_style, outer_by, shown_number, shown_sign}, PatternTexts.{Around, around, affixes_for}, Scaled.{ScaledValue, HasNoIncrement}, ScientificReading.{exponent_form, CanReadExponent}, AffixedExponents.{IsReadWithExponent, IsTypedWithExponent}, TextParts.pieces_text}
+use Rattle.number_format.specs.{declared.{digits.options.DigitOptions.DigitOptions, format.{outer.OuterTexts.OuterTexts, formatter.NumberFormatter.NumberFormatter}, options.{DecimalSeparatorDisplay.DecimalSeparatorDisplay, NumberNotation.NumberNotation, NumberStyle.NumberStyle}, read.{pattern.{NumberPattern.NumberPattern, TheConstants.{SIGN_KEYS, CATEGORY_KEYS}}, scientific.ExponentForm.ExponentForm, number_reader.{NumberReaderError.NumberReaderError, ParseMode.{ParseMode, TheVariants.{Strict, Lenient}}}}}, AffixedTexts.{AreNamed, Reader, IsReadExactly, IsReadTyped}, NumberText.{compact_style, needs_no_integer, outer_by, shown_number, shown_sign}, PatternTexts.{Around, around, affixes_for}, Scaled.{ScaledValue, HasNoIncrement}, ScientificReading.{exponent_form, CanReadExponent}, AffixedExponents.{IsReadWithExponent, IsTypedWithExponent}, TextParts.pieces_text}
 
 -- ---- Exactly.
 
@@ -32,9 +32,11 @@ abbrev pub CanReadNotation : NumberFormatter → Type 0
 CanReadNotation f =
     IsStandard f ⊎ ((f.outer ≡ OuterTexts.None) × CanReadExponents f (exponent_form f f.options.notation))
 
--- and no decimal separator without fraction digits is written
+-- and no decimal separator without fraction digits or without integer digits is written
 abbrev pub HasPlainDigits : NumberFormatter → Type 0
-HasPlainDigits f = CanReadNotation f × (f.options.decimal_separator ≡ DecimalSeparatorDisplay.Auto)
+HasPlainDigits f =
+    CanReadNotation f × (f.options.decimal_separator ≡ DecimalSeparatorDisplay.Auto)
+    × (needs_no_integer f.digits ≡ false)
 
 -- the text of each category has the number: no text as `yesterday` replaces it
 abbrev pub HasNumbers : NumberFormatter → Type 0

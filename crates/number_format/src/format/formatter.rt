@@ -133,7 +133,8 @@ impl NumberFormatter {
         let own = symbols.sizes();
         let outer = texts.in_style(options.style);
         let (written, shown) = style_of(system, own, &ids.formats, currency, &outer, options);
-        let sizes = style_sizes(&written.pattern, options.grouping, own);
+        let strategy = options.grouping;
+        let sizes = style_sizes(&written.pattern, options.group_sizes, strategy, own);
         let signs = ids.formats.signs();
         let percent = percent_text(options.style, signs);
         let style = StyleTexts {

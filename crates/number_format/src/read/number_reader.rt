@@ -6,6 +6,7 @@ ghost use Rattle.number_format.specs.{AffixedTexts.AreNamed, NumberReading.{Keep
 use crate::digits::options::DigitOptions;
 use crate::digits::precision::Precision;
 use crate::format::formatter::NumberFormatter;
+use crate::format::fraction::needs_no_integer;
 use crate::format::outer::OuterTexts;
 use crate::options::{DecimalSeparatorDisplay, NumberNotation, NumberStyle};
 use crate::read::affix_reader::AffixReader;
@@ -26,7 +27,7 @@ use std::str;
 pub enum NumberReaderError {
     /// The place of the number or of its exponent is not certain:
     ///
-    /// - The notation is compact, or a decimal separator without fraction digits is written.
+    /// - The notation is compact, or a decimal separator without fraction digits or without integer digits is written.
     /// - The notation is scientific or engineering, and a unit or the name of a currency is written; or the sign of the
     ///   exponent is never written; or the text before the exponent begins with a digit or a separator, or one of these
     ///   with it; or numbers are rounded to multiples of an increment, or integer digits are cut off.
@@ -210,7 +211,9 @@ fn has_plain_digits(formatter: &NumberFormatter) -> bool
     ensures { IsTrue result ↔ HasPlainDigits formatter.now }
 {
     match formatter.options.decimal_separator {
-        DecimalSeparatorDisplay::Auto => can_read_notation(formatter),
+        DecimalSeparatorDisplay::Auto => {
+            !needs_no_integer(&formatter.digits) && can_read_notation(formatter)
+        }
         DecimalSeparatorDisplay::Always => false,
     }
 }

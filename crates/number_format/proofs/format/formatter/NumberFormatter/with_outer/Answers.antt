@@ -16,7 +16,8 @@ returns-clause-some c =
     subst (λ z. IsStyle o.style o.notation c.in_style-outer.result text z formats currency o.sign_display written
     c.style_of-shown.result.1)
     c.sizes-own.ensures c.style_of-shown.ensures in
-    let sizes = c.style_sizes-sizes.ensures ∙ ap (style_sizes written.pattern o.grouping) c.sizes-own.ensures in
+    let sizes =
+    c.style_sizes-sizes.ensures ∙ ap (style_sizes written.pattern o.group_sizes o.grouping) c.sizes-own.ensures in
     record {
       own = own;
       system = named.0;
