@@ -151,6 +151,7 @@ same_significant c a b is js =
     λ i. record {
       min = min i;
       max = max i;
+      some = is_prop→PathP (λ j. 0 < min j) (λ j. le_prop) a.some b.some i;
       ordered = is_prop→PathP (λ j. min j ≤ max j) (λ j. le_prop) a.ordered b.ordered i;
       at_most = is_prop→PathP (λ j. max j ≤ 65536) (λ j. le_prop) a.at_most b.at_most i;
     }
