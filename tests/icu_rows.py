@@ -67,7 +67,7 @@ def main(name):
             if failed <= 20:
                 print(row, found)
     print(f"numbers for which ICU has an error: {exact}")
-    print("unsupported:", ", ".join(f"{stem} {count}" for stem, count in unsupported.most_common()) or "none")
+    print("unsupported:", ", ".join(f"{stem:.40} {count}" for stem, count in unsupported.most_common()) or "none")
     print(f"{passed} passed, {failed} failed")
     return failed > 0
 
