@@ -45,6 +45,15 @@ fn sign_kind(sign: Sign) -> PartKind
 }
 
 impl StyleTexts {
+    pub(crate) fn copied(&self) -> Self
+        ensures { result ≡ self.now }
+    {
+        StyleTexts {
+            symbols: self.symbols.copied(),
+            ..*self
+        }
+    }
+
     fn pattern_kind(&self, piece: Piece) -> PartKind
         ensures { result ≡ pattern_kind self.now piece }
     {

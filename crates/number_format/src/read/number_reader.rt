@@ -1,7 +1,7 @@
 //! Readers of what formatters write.
 ghost use Rattle.std.specs.Prelude.{◌≡◌, ◌↔◌, ◌≤◌, IsTrue, ◌∷◌, [], ◌++◌, ◌-ℤ◌, pos, length, take, map, flat_map, IfOk, IfErr, OnOk};
 ghost use Rattle.decimal_format.specs.Readable.{IsReadable};
-ghost use Rattle.number_format.specs.{AffixedTexts.AreNamed, NumberReading.{KeepsNotation, CanReadExponents, CanReadNotation, HasPlainDigits, CanRead, CanUndo, CannotRead, percent_name, names_by, form, form_of, form_of_pattern, forms_of_name, patterns_of, number_reader_of, typed_forms, IsReadStrictly, IsTypedBy, IsReadLeniently, IsReadInMode}, Scaled.HasNoIncrement, ScientificReading.exponent_form};
+ghost use Rattle.number_format.specs.{AffixedTexts.AreNamed, NumberReading.{KeepsNotation, CanReadExponents, CanReadWords, CanReadAlone, CanReadNotation, HasPlainDigits, AreOwnWordsNamed, words_of, word_formatter, CanRead, CanUndo, CannotRead, percent_name, names_by, form, form_of, form_of_pattern, forms_of_name, patterns_of, number_reader_of, typed_forms, IsReadStrictly, IsTypedBy, IsReadLeniently, IsReadInMode}, Scaled.HasNoIncrement, ScientificReading.exponent_form};
 
 use crate::digits::options::DigitOptions;
 use crate::digits::precision::Precision;
@@ -10,6 +10,7 @@ use crate::format::outer::OuterTexts;
 use crate::options::{DecimalSeparatorDisplay, NumberNotation, NumberStyle};
 use crate::read::affix_reader::AffixReader;
 use crate::read::apart::are_named;
+use crate::read::compact::{CompactReader, has_compact_exponents};
 use crate::read::owned_affixes::OwnedAffixes;
 use crate::read::pattern::NumberPattern;
 use crate::read::scientific::ExponentForm;
@@ -190,12 +191,25 @@ fn is_standard(notation: NumberNotation) -> bool
     matches!(notation, NumberNotation::Standard)
 }
 
+fn can_read_words(formatter: &NumberFormatter) -> bool
+    requires { formatter.now.outer ≡ OuterTexts.None }
+    ensures { IsTrue result ↔ CanReadWords formatter.now (words_of formatter.now) }
+{
+    match formatter.options.compact_style() {
+        Some(style) => {
+            keeps_notation(&formatter.digits)
+                && has_compact_exponents(&formatter.notation)
+                && formatter.has_word_numbers(style)
+        }
+        None => false,
+    }
+}
+
 fn can_read_alone(formatter: &NumberFormatter) -> bool
-    ensures { IsTrue result ↔ ((formatter.now.outer ≡ OuterTexts.None) × CanReadExponents formatter.now
-        (exponent_form formatter.now formatter.now.options.notation)) }
+    ensures { IsTrue result ↔ CanReadAlone formatter.now }
 {
     match formatter.outer {
-        OuterTexts::None => can_read_exponents(formatter),
+        OuterTexts::None => can_read_exponents(formatter) || can_read_words(formatter),
         OuterTexts::Units(_) | OuterTexts::Names(_) => false,
     }
 }
@@ -243,6 +257,8 @@ pub struct NumberReader {
     reader: AffixReader<'static>,
     /// How exponents are written, if the notation has them.
     exponent: Option<ExponentForm<'static>>,
+    /// What reads words, if the notation has them.
+    words: Option<CompactReader>,
     forms: Vec<Form>,
 }
 
@@ -252,9 +268,11 @@ impl Drop for NumberReader {
         let NumberReader {
             reader,
             exponent: _,
+            words,
             forms,
         } = self;
         drop(reader);
+        drop(words);
         drop(forms);
     }
 }
@@ -265,19 +283,64 @@ impl Model for NumberReader {
 
     ghost Value = { NumberReader };
 
-    ghost view = { λ s. record { texts = s.reader; exponent = s.exponent; forms = s.forms.items } };
+    ghost view = { λ s. record {
+      texts = s.reader;
+      exponent = s.exponent;
+      words = s.words;
+      forms = s.forms.items;
+    } };
 
     ghost invariant = { λ s. (length s.forms.items ≤ 44)
         × IfSome s.exponent (λ form. IsSeparatorApart s.reader.symbols form.separator.now) };
 }
 
 impl NumberFormatter {
+    fn are_own_words_apart(&self) -> bool
+        requires undo { CanUndo self.now }
+        requires readable { IsReadable self.now.style.symbols }
+        ensures { IsTrue result ↔ AreOwnWordsNamed self.now (words_of self.now) }
+    {
+        match self.options.compact_style() {
+            Some(style) => self.are_words_apart(style),
+            None => true,
+        }
+    }
+
+    fn words(
+        &self,
+        alloc: Global,
+        shift: i16,
+    ) -> Result<Option<CompactReader>, NumberReaderError>
+        requires undo { CanUndo self.now }
+        requires readable { IsReadable self.now.style.symbols }
+        requires shift { shift ≡ pos 0 -ℤ self.now.options.scale }
+        ensures ok { IfOk result (λ words. (words ≡ word_formatter self.now)
+            × AreOwnWordsNamed self.now (words_of self.now)) }
+        ensures err { IfErr result (λ e. CannotRead e self.now) }
+    {
+        let Some(style) = self.options.compact_style() else {
+            return Ok(None);
+        };
+        let Ok(patterns) = self.word_patterns(alloc, style) else {
+            return Err(self.patterns_error());
+        };
+        if !are_named(&self.style.symbols, patterns.as_slice()) {
+            return Err(NumberReaderError::Affixes);
+        }
+        Ok(Some(CompactReader::new(
+            self.copied(),
+            style,
+            patterns,
+            shift,
+        )))
+    }
+
     fn patterns_error(&self) -> NumberReaderError
         requires undo { CanUndo self.now }
         requires readable { IsReadable self.now.style.symbols }
         ensures { CannotRead result self.now }
     {
-        if self.are_keys_apart(self.pattern_keys()) {
+        if self.are_keys_apart(self.pattern_keys()) && self.are_own_words_apart() {
             NumberReaderError::Memory
         } else {
             NumberReaderError::Affixes
@@ -318,11 +381,13 @@ impl NumberFormatter {
         let Ok(forms) = forms(self, patterns.as_slice(), alloc) else {
             return Err(NumberReaderError::Memory);
         };
+        let words = self.words(alloc, shift)?;
         let reader = AffixReader::new(self.style.symbols.copied(), patterns, self.rules, shift);
         let exponent = ExponentForm::of(self);
         Ok(NumberReader {
             reader,
             exponent,
+            words,
             forms,
         })
     }
@@ -362,9 +427,10 @@ impl NumberReader {
     ) -> Result<Signed<UnsignedOver<D>>, ParseError>
         ensures { IsReadStrictly D.L self.now text.now result }
     {
-        match &self.exponent {
-            Some(form) => self.reader.read_with_exponent(form, alloc, text),
-            None => self.reader.read(alloc, text),
+        match (&self.exponent, &self.words) {
+            (Some(form), _) => self.reader.read_with_exponent(form, alloc, text),
+            (None, Some(words)) => words.read(alloc, text),
+            (None, None) => self.reader.read(alloc, text),
         }
     }
 
@@ -376,12 +442,13 @@ impl NumberReader {
     ) -> Result<Signed<UnsignedOver<D>>, ParseError>
         ensures { IsTypedBy D.L self.now.texts self.now.exponent alternatives.now text.now result }
     {
-        match &self.exponent {
-            Some(form) => {
+        match (&self.exponent, &self.words) {
+            (Some(form), _) => {
                 self.reader
                     .read_lenient_with_exponent(form, alloc, alternatives, text)
             }
-            None => self.reader.read_lenient(alloc, alternatives, text),
+            (None, Some(words)) => words.read_lenient(&self.reader, alloc, alternatives, text),
+            (None, None) => self.reader.read_lenient(alloc, alternatives, text),
         }
     }
 

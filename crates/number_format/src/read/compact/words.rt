@@ -1,0 +1,123 @@
+//! The texts around numbers in compact notation.
+ghost use Rattle.std.specs.{Prelude.{◌≡◌, ◌↔◌, ◌<◌, ◌≤ℤ◌, pos, IsTrue, IfSome, IfOk}, Option.option_copied};
+ghost use Rattle.locale_data.specs.Compact.{pattern_for, patterns_in, compact_patterns, AreTexts};
+ghost use Rattle.number_format.specs.{CompactReading.{inner_at, word_pattern, key_at, IsSameBefore, RepeatsAnother, HasCompactExponents, HasWordNumbers, AreWordPatterns}, NumberText.AreParts};
+
+use crate::format::affixes::NumberAffixes;
+use crate::format::formatter::NumberFormatter;
+use crate::format::outer::OuterTexts;
+use crate::format::short_affixes::ShortAffixes;
+use crate::options::NumberStyle;
+use crate::read::compact::keys::{CompactKey, KEY_COUNT, key_at};
+use crate::read::owned_affixes::OwnedAffixes;
+use crate::read::pattern::{NumberPattern, joined_texts};
+use locale_data::{CompactPattern, CompactPatterns, CompactStyle};
+use std::alloc::{AllocError, Global};
+
+impl NumberFormatter {
+    fn words_at(&self, style: CompactStyle, magnitude: i16) -> CompactPatterns
+        ensures { patterns_in result ≡ compact_patterns self.now.formats style magnitude }
+    {
+        self.formats.compact_patterns(style, magnitude)
+    }
+
+    fn word(&self, style: CompactStyle, key: CompactKey) -> Option<&'static CompactPattern>
+        ensures value { option_copied result
+            ≡ pattern_for key.category key.is_one (compact_patterns self.now.formats style key.magnitude) }
+        ensures texts { IfSome result (λ pattern. AreTexts pattern.now) }
+    {
+        self.words_at(style, key.magnitude)
+            .pattern(key.category, key.is_one)
+    }
+
+    fn inner_at(&self, style: CompactStyle, key: CompactKey) -> NumberAffixes<'_>
+        ensures { AreParts (inner_at self.now style key) result }
+    {
+        self.style.affixes(key.sign, self.word(style, key))
+    }
+
+    /// Returns the texts around a number.
+    pub(crate) fn word_texts(&self, style: CompactStyle, key: CompactKey) -> ShortAffixes<2550>
+        ensures { result ≡ (word_pattern self.now style key).affixes }
+    {
+        joined_texts(&self.outer_around(key.whole), &self.inner_at(style, key))
+    }
+
+    fn is_same_before(&self, style: CompactStyle, magnitude: i16) -> bool
+        requires { pos 0 ≤ℤ magnitude }
+        ensures { IsTrue result → IsSameBefore self.now style magnitude }
+    {
+        let before = magnitude - 1;
+        let own = self.words_at(style, magnitude).0;
+        let other = self.words_at(style, before).0;
+        own.0 == other.0
+            && own.1 == other.1
+            && self.notation.exponent_at(magnitude) == self.notation.exponent_at(before)
+    }
+
+    /// Returns whether the texts of a key are those of one with a smaller index.
+    pub(crate) fn repeats(&self, style: CompactStyle, index: usize) -> bool
+        requires alone { self.now.outer ≡ OuterTexts.None }
+        requires listed { index < 1296 }
+        ensures { IsTrue result → RepeatsAnother self.now style index }
+    {
+        let magnitude = key_at(index).magnitude;
+        if index >= 72 && self.is_same_before(style, magnitude) {
+            return true;
+        }
+        if index % 72 >= 6 && !self.words_at(style, magnitude).needs_category() {
+            return true;
+        }
+        index % 6 >= 3 && !matches!(self.options.style, NumberStyle::Percent)
+    }
+
+    /// Returns whether each text has a number: `mille` has none.
+    pub(crate) fn has_word_numbers(&self, style: CompactStyle) -> bool
+        requires alone { self.now.outer ≡ OuterTexts.None }
+        requires exponents { HasCompactExponents self.now.notation }
+        ensures { IsTrue result ↔ HasWordNumbers self.now style }
+    {
+        for index in 0..KEY_COUNT {
+            if !self.repeats(style, index) && !self.inner_at(style, key_at(index)).has_number {
+                return false;
+            }
+        }
+        true
+    }
+
+    fn word_pattern(
+        &self,
+        alloc: Global,
+        style: CompactStyle,
+        key: CompactKey,
+    ) -> Result<NumberPattern, AllocError>
+        ensures { IfOk result (λ p. p ≡ word_pattern self.now style key) }
+    {
+        let affixes = OwnedAffixes::copied(alloc, self.word_texts(style, key).texts())?;
+        Ok(NumberPattern {
+            affixes,
+            sign: key.sign,
+            category: None,
+            exponent: self.notation.exponent_at(key.magnitude),
+        })
+    }
+
+    /// Returns the texts around numbers, each of them once.
+    pub(crate) fn word_patterns(
+        &self,
+        alloc: Global,
+        style: CompactStyle,
+    ) -> Result<Vec<NumberPattern>, AllocError>
+        requires alone { self.now.outer ≡ OuterTexts.None }
+        requires exponents { HasCompactExponents self.now.notation }
+        ensures { IfOk result (λ patterns. AreWordPatterns self.now style patterns.items) }
+    {
+        let mut patterns = Vec::new(alloc);
+        for index in 0..KEY_COUNT {
+            if !self.repeats(style, index) {
+                patterns.push(self.word_pattern(alloc, style, key_at(index))?)?;
+            }
+        }
+        Ok(patterns)
+    }
+}
