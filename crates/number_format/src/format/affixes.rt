@@ -50,7 +50,9 @@ impl StyleTexts {
     {
         StyleTexts {
             symbols: self.symbols.copied(),
-            ..*self
+            pattern: self.pattern,
+            percent: self.percent,
+            currency: self.currency,
         }
     }
 

@@ -115,7 +115,13 @@ impl NumberFormatter {
         let texts = self.pattern_texts(key);
         for other in keys {
             let others = self.pattern_texts(*other);
-            if !are_told_apart(symbols, texts.texts(), others.texts(), (key.1, 0), (other.1, 0)) {
+            if !are_told_apart(
+                symbols,
+                texts.texts(),
+                others.texts(),
+                (key.1, 0),
+                (other.1, 0),
+            ) {
                 return false;
             }
         }

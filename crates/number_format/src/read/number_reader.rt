@@ -27,10 +27,12 @@ use std::str;
 pub enum NumberReaderError {
     /// The place of the number or of its exponent is not certain:
     ///
-    /// - The notation is compact, or a decimal separator without fraction digits is written.
-    /// - The notation is scientific or engineering, and a unit or the name of a currency is written; or the sign of the
-    ///   exponent is never written; or the text before the exponent begins with a digit or a separator, or one of these
-    ///   with it; or numbers are rounded to multiples of an increment, or integer digits are cut off.
+    /// - A decimal separator without fraction digits is written.
+    /// - The notation is not standard, and a unit or the name of a currency is written, or numbers are rounded to
+    ///   multiples of an increment, or integer digits are cut off.
+    /// - The notation is scientific or engineering, and the sign of the exponent is never written; or the text before the
+    ///   exponent begins with a digit or a separator, or one of these with it.
+    /// - The notation is compact, and a word is written without a number: in French 1000 is `mille`.
     Notation,
     /// The unit has a text without a number for numbers of a plural category: in Arabic `يومان` is two days.
     NoNumber(PluralCategory),
@@ -38,8 +40,8 @@ pub enum NumberReaderError {
     Scale,
     /// The symbols are not readable: of two digits, separators or prefixes of signs one begins with the other.
     Symbols,
-    /// Neither the prefixes nor the suffixes of two texts can be told apart: of two signs, or of two categories of a
-    /// unit or a name.
+    /// Neither the prefixes nor the suffixes of two texts can be told apart: of two signs, of two categories of a unit
+    /// or a name, or of two powers of ten.
     Affixes,
     /// Out of memory.
     Memory,
@@ -306,11 +308,7 @@ impl NumberFormatter {
         }
     }
 
-    fn words(
-        &self,
-        alloc: Global,
-        shift: i16,
-    ) -> Result<Option<CompactReader>, NumberReaderError>
+    fn words(&self, alloc: Global, shift: i16) -> Result<Option<CompactReader>, NumberReaderError>
         requires undo { CanUndo self.now }
         requires readable { IsReadable self.now.style.symbols }
         requires shift { shift ≡ pos 0 -ℤ self.now.options.scale }
@@ -327,12 +325,7 @@ impl NumberFormatter {
         if !are_named(&self.style.symbols, patterns.as_slice()) {
             return Err(NumberReaderError::Affixes);
         }
-        Ok(Some(CompactReader::new(
-            self.copied(),
-            style,
-            patterns,
-            shift,
-        )))
+        Ok(Some(CompactReader::new(self.copied(), style, patterns, shift)))
     }
 
     fn patterns_error(&self) -> NumberReaderError
@@ -414,6 +407,9 @@ impl NumberReader {
     /// In scientific and engineering notation the text has the exponent that the notation has for the number, with its
     /// sign and its least number of digits: `1.2E3` is 1200, and `12E3`, `1E03` and `1200` are `Syntax`.
     ///
+    /// In compact notation it has the words of the number's magnitude and plural category: in `en`, `1.25M` is 1250000,
+    /// and `1250K`, `0.5M` and `1200` are `Syntax`. The value is the significand times the power of ten.
+    ///
     /// # Errors
     ///
     /// - `Syntax`: no decimal has this text, of any number of digits.
@@ -454,7 +450,8 @@ impl NumberReader {
 
     /// Reads a number as people type it, and undoes the scale.
     ///
-    /// A text that [`read`](Self::read) accepts has the same value. Else the number has no exponent, and is as
+    /// A text that [`read`](Self::read) accepts has the same value. In compact notation, else the words may be those of
+    /// any magnitude and category: `1250K` is 1250000, and `0.5M` is 500000. Else the number has no exponent, and is as
     /// [`DecimalSymbols::read_lenient`](decimal_format::DecimalSymbols::read_lenient) accepts it. Around it may be what
     /// the formatter writes, of any plural category, nothing, or parentheses for a minus sign; or, on either side and
     /// with a space or without, the symbol, the narrow symbol or the code of the currency, or the percent sign, also

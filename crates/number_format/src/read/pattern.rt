@@ -89,10 +89,7 @@ fn pair_text(first: &str, second: &str) -> ArrayString<2550>
 }
 
 /// Joins what is around a whole text and what is around the number in it.
-pub(crate) fn joined_texts(
-    outer: &OuterAround<'_>,
-    inner: &NumberAffixes<'_>,
-) -> ShortAffixes<2550>
+pub(crate) fn joined_texts(outer: &OuterAround<'_>, inner: &NumberAffixes<'_>) -> ShortAffixes<2550>
     ensures { result ≡ affixes (parts_text outer.now.before ++ parts_text inner.now.prefix)
         (parts_text inner.now.suffix ++ parts_text outer.now.after) }
 {

@@ -10,7 +10,7 @@ returns-then-not-are_told_apart c =
     let s = c.args.symbols.now in
     let item = c.other-item.result in
     let test : IsTrue c.are_told_apart.result ↔ AreToldApart s p item =
-    rw (c.texts-texts.ensures.prefix, c.texts-texts.ensures.suffix, c.texts.ensures.prefix, c.texts.ensures.suffix)
+    rw (c.texts-texts.ensures.prefix, c.texts-texts.ensures.suffix, c.texts-others.ensures.prefix, c.texts-others.ensures.suffix, c.meaning.ensures, c.meaning-2.ensures)
     at c.are_told_apart.ensures in
     not_all (AreToldApart s p) c.args.others.now c.loop-other.other-index item item c.are_told_apart.result
     (omega arith) c.other-item.is test c.if-not-are_told_apart.true
@@ -21,7 +21,7 @@ loop-other-preserved c =
     let s = c.args.symbols.now in
     let item = c.other-item.result in
     let test : IsTrue c.are_told_apart.result ↔ AreToldApart s p item =
-    rw (c.texts-texts.ensures.prefix, c.texts-texts.ensures.suffix, c.texts.ensures.prefix, c.texts.ensures.suffix)
+    rw (c.texts-texts.ensures.prefix, c.texts-texts.ensures.suffix, c.texts-others.ensures.prefix, c.texts-others.ensures.suffix, c.meaning.ensures, c.meaning-2.ensures)
     at c.are_told_apart.ensures in
     all_more (AreToldApart s p) c.args.others.now c.loop-other.other-index item item c.are_told_apart.result
     (omega arith) c.other-item.is test c.if-not-are_told_apart.false c.loop-other.invariant

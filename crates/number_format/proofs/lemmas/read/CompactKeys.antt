@@ -1,0 +1,204 @@
+-- Each key of compact notation has the texts of one of the magnitudes 2 to 19.
+use Rattle.std.proofs.{Common.{◌≡◌, ℕ, suc, ◌+◌, ◌*◌, ◌/◌, ◌%◌, ◌<◌, ◌==◌, ◌&&◌, Bool, true, false, nat_lt, cond, List, [], ◌∷◌, ◌++◌, refl, sym, ◌∙◌, ap, arith}, lemmas.{Bool.{and_parts, Decides.nat_tests}, Int.{ints, clamps}}}
+use Rattle.std.specs.{Prelude.{Option, Some, None, slice_get, slice_index, option_and_then, if◌then◌else◌, ℤ, pos, unsigned_abs, ◌-ℤ◌, ◌≤ℤ◌, int_lt, int_le}, Int.{int_max, int_min}, List.{list_all, Contains}, Option.option_map_or}
+use Rattle.fixed_decimal.specs.declared.variations.Sign.{Sign}
+use Rattle.plural_rules.specs.declared.rules.PluralCategory.{PluralCategory}
+use Rattle.decimal_format.specs.Symbols.{affixes}
+use Rattle.locale_data.specs.{declared.{tables.{rows.{compact.{CompactRun.CompactRun, CompactSet.CompactSet, PercentUnit.PercentUnit}, TableRange.TableRange}, compact.TheConstants.{COMPACT_RUNS, COMPACT_SETS, COMPACT_PATTERNS, PERCENT_UNITS}}, compact.CompactStyle.CompactStyle, number_formats.NumberFormats.NumberFormats}, Compact.{compact_patterns, pattern_for, rows_of, run_at}, Rows.part}
+use Rattle.locale_data.proofs.lemmas.tables.{EachRow.passes, TableTexts.contains-part}
+use Rattle.number_format.specs.{declared.{format.{outer.OuterTexts.OuterTexts, formatter.NumberFormatter.NumberFormatter, text_part.PartKind.PartKind}, notation.{CompactExponents.CompactExponents, Notation.Notation}, options.NumberStyle.NumberStyle, read.{compact.keys.CompactKey.CompactKey, pattern.NumberPattern.NumberPattern}}, CompactReading.{inner_at, word_pattern, key_at, category_at, sign_at, AreAlike, HasCompactExponents}, NumberText.{around_by, around_texts, outer_by, outer_texts, percent_texts}, NumberReading.words_of, PatternTexts.Around, Scaled.{compact_exponent, exponent_at}, TextParts.pieces_text}
+
+-- ---- Magnitudes.
+
+-- the magnitude from 2 to 19 with the same patterns
+abbrev pub clamped : ℤ → ℤ
+clamped m = int_max (pos 2) (int_min m (pos 19))
+
+abbrev is_low : CompactRun → Bool
+is_low r = nat_lt 2 r.first && nat_lt r.first 20
+
+runs_are_low : list_all is_low COMPACT_RUNS ≡ true
+runs_are_low = refl
+
+same_test : (n : ℕ) (m : ℤ) → 2 < n → n < 20 → int_le (pos n) m ≡ int_le (pos n) (clamped m)
+same_test n m low high = grind (arith, ints, clamps)
+
+same_run : (runs : List CompactRun) (m : ℤ) → ((r : CompactRun) → Contains runs r → is_low r ≡ true)
+    → run_at runs m ≡ run_at runs (clamped m)
+same_run [] m low = refl
+same_run (r ∷ runs) m low =
+    let first = and_parts (nat_lt 2 r.first) (nat_lt r.first 20) (low r (0, omega arith, refl)) in
+    let test = same_test r.first m (grind (arith, nat_tests, first.0)) (grind (arith, nat_tests, first.1)) in
+    let rest = same_run runs m (λ x c. low x (suc c.0, omega (arith, c.1), c.2)) in
+    λ i. cond (test i) (Some r) (rest i)
+
+same_patterns : (f : NumberFormats) (style : CompactStyle) (m : ℤ)
+    → compact_patterns f style m ≡ compact_patterns f style (clamped m)
+same_patterns f style m = λ i. option_map_or (λ run. part COMPACT_PATTERNS run.patterns)
+    (option_and_then (λ set. same_run (part COMPACT_RUNS (rows_of set style).runs) m
+    (λ r c. passes is_low COMPACT_RUNS r runs_are_low (contains-part COMPACT_RUNS (rows_of set style).runs r c)) i)
+    (slice_get COMPACT_SETS f.compact)) []
+
+same_below : (m : ℤ) → int_lt m (pos 3) ≡ int_lt (clamped m) (pos 3)
+same_below m = grind (arith, ints, clamps)
+
+same_row : (m : ℤ) → int_min (int_max m (pos 3)) (pos 19) ≡ int_min (int_max (clamped m) (pos 3)) (pos 19)
+same_row m = grind (arith, ints, clamps)
+
+same_exponent : (table : CompactExponents) (m : ℤ) → compact_exponent table m ≡ compact_exponent table (clamped m)
+same_exponent table m = λ i.
+    if same_below m i then pos 0 else pos (slice_index table.rows (unsigned_abs (same_row m i -ℤ pos 3)))
+
+pub same_exponent_at : (n : Notation) → HasCompactExponents n → (m : ℤ)
+    → exponent_at n m ≡ exponent_at n (clamped m)
+same_exponent_at (Notation.Compact table) has m = same_exponent table m
+same_exponent_at Notation.Standard has m = absurd has
+same_exponent_at Notation.Scientific has m = absurd has
+same_exponent_at Notation.Engineering has m = absurd has
+
+-- ---- What is around the whole text.
+
+abbrev pub whole_code : PluralCategory → ℕ
+whole_code PluralCategory.One = 1
+whole_code other = 0
+
+same_percent : (unit : Option PercentUnit) (c : PluralCategory)
+    → percent_texts unit c ≡ percent_texts unit (category_at (whole_code c))
+same_percent None c = refl
+same_percent (Some unit) PluralCategory.Other = refl
+same_percent (Some unit) PluralCategory.One = refl
+same_percent (Some unit) PluralCategory.Two = refl
+same_percent (Some unit) PluralCategory.Few = refl
+same_percent (Some unit) PluralCategory.Many = refl
+same_percent (Some unit) PluralCategory.Zero = refl
+
+same_texts : (formats : NumberFormats) (words : Option CompactStyle) (style : NumberStyle) (c : PluralCategory)
+    → outer_texts formats OuterTexts.None words style c
+    ≡ outer_texts formats OuterTexts.None words style (category_at (whole_code c))
+same_texts formats None style c = refl
+same_texts formats (Some w) NumberStyle.Percent c =
+    ap (around_texts PartKind.Unit) (same_percent (slice_get PERCENT_UNITS formats.unit) c)
+same_texts formats (Some w) NumberStyle.Permille c = refl
+same_texts formats (Some w) NumberStyle.Decimal c = refl
+same_texts formats (Some w) (NumberStyle.Currency x) c = refl
+same_texts formats (Some w) (NumberStyle.Unit x) c = refl
+
+pub same_outer : (f : NumberFormatter) → f.outer ≡ OuterTexts.None → (c : PluralCategory)
+    → outer_by f c ≡ outer_by f (category_at (whole_code c))
+same_outer f alone c =
+    (λ i. outer_texts f.formats (alone i) (words_of f) f.options.style c)
+    ∙ same_texts f.formats (words_of f) f.options.style c
+    ∙ (λ i. outer_texts f.formats (sym alone i) (words_of f) f.options.style (category_at (whole_code c)))
+
+-- ---- Keys.
+
+pub alike_by : (f : NumberFormatter) (style : CompactStyle) (k l : CompactKey)
+    → inner_at f style k ≡ inner_at f style l → outer_by f k.whole ≡ outer_by f l.whole → k.sign ≡ l.sign
+    → exponent_at f.notation k.magnitude ≡ exponent_at f.notation l.magnitude → AreAlike f style k l
+alike_by f style k l inner outer sign exponent = record {
+  pattern = λ i. pattern (outer i) (inner i) (sign i) (exponent i);
+  has_number = ap (λ (a : Around). a.has_number) inner;
+}
+  where
+    abbrev pattern : Around → Around → Sign → ℤ → NumberPattern
+    pattern outer inner sign exponent = record {
+      affixes = affixes (pieces_text outer.prefix ++ pieces_text inner.prefix)
+          (pieces_text inner.suffix ++ pieces_text outer.suffix);
+      sign = sign;
+      category = None;
+      exponent = exponent;
+    }
+
+pub alike_twice : (f : NumberFormatter) (style : CompactStyle) (k l m : CompactKey) → AreAlike f style k l
+    → AreAlike f style l m → AreAlike f style k m
+alike_twice f style k l m a b =
+    record { pattern = a.pattern ∙ b.pattern; has_number = a.has_number ∙ b.has_number }
+
+abbrev code : PluralCategory → ℕ
+code PluralCategory.Other = 0
+code PluralCategory.One = 1
+code PluralCategory.Two = 2
+code PluralCategory.Few = 3
+code PluralCategory.Many = 4
+code PluralCategory.Zero = 5
+
+coded : (c : PluralCategory) → (code c < 6) × (category_at (code c) ≡ c)
+coded PluralCategory.Other = (omega arith, refl)
+coded PluralCategory.One = (omega arith, refl)
+coded PluralCategory.Two = (omega arith, refl)
+coded PluralCategory.Few = (omega arith, refl)
+coded PluralCategory.Many = (omega arith, refl)
+coded PluralCategory.Zero = (omega arith, refl)
+
+whole_below : (c : PluralCategory) → whole_code c < 2
+whole_below PluralCategory.Other = omega arith
+whole_below PluralCategory.One = omega arith
+whole_below PluralCategory.Two = omega arith
+whole_below PluralCategory.Few = omega arith
+whole_below PluralCategory.Many = omega arith
+whole_below PluralCategory.Zero = omega arith
+
+abbrev sign_code : Sign → ℕ
+sign_code Sign.None = 0
+sign_code Sign.Negative = 1
+sign_code Sign.Positive = 2
+
+sign_coded : (s : Sign) → (sign_code s < 3) × (sign_at (sign_code s) ≡ s)
+sign_coded Sign.None = (omega arith, refl)
+sign_coded Sign.Negative = (omega arith, refl)
+sign_coded Sign.Positive = (omega arith, refl)
+
+abbrev one_code : Bool → ℕ
+one_code b = if b then 1 else 0
+
+one_coded : (b : Bool) → (one_code b < 2) × ((one_code b == 1) ≡ b)
+one_coded true = (omega arith, refl)
+one_coded false = (omega arith, refl)
+
+-- the digits of an index
+pub record AreDigitsOf (i a b o w s : ℕ) : Type 0 where
+  pub below : i < 1296
+  pub magnitude : i / 72 ≡ a
+  pub category : i % 72 / 12 ≡ b
+  pub one : i % 12 / 6 ≡ o
+  pub whole : i % 6 / 3 ≡ w
+  pub sign : i % 3 ≡ s
+
+digits_of : (a b o w s : ℕ) → a < 18 → b < 6 → o < 2 → w < 2 → s < 3
+    → AreDigitsOf (a * 72 + b * 12 + o * 6 + w * 3 + s) a b o w s
+digits_of a b o w s ha hb ho hw hs = record {
+  below = omega (arith, ha, hb, ho, hw, hs);
+  magnitude = omega (arith, ha, hb, ho, hw, hs);
+  category = omega (arith, ha, hb, ho, hw, hs);
+  one = omega (arith, ha, hb, ho, hw, hs);
+  whole = omega (arith, ha, hb, ho, hw, hs);
+  sign = omega (arith, ha, hb, ho, hw, hs);
+}
+
+-- each key has the texts of one with an index
+pub index_of : (f : NumberFormatter) (style : CompactStyle) → f.outer ≡ OuterTexts.None
+    → HasCompactExponents f.notation → (k : CompactKey)
+    → (i : ℕ) × (i < 1296) × AreAlike f style (key_at i) k
+index_of f style alone exponents k =
+    let m = clamped k.magnitude in
+    let a = unsigned_abs (m -ℤ pos 2) in
+    let c = coded k.category in
+    let o = one_coded k.is_one in
+    let s = sign_coded k.sign in
+    let i = a * 72 + code k.category * 12 + one_code k.is_one * 6 + whole_code k.whole * 3 + sign_code k.sign in
+    let is = digits_of a (code k.category) (one_code k.is_one) (whole_code k.whole) (sign_code k.sign)
+    (omega (arith, ints, clamps)) c.0 o.0 (whole_below k.whole) s.0 in
+    let magnitude : pos (i / 72 + 2) ≡ m = omega (arith, ints, clamps, is.magnitude) in
+    let category = ap category_at is.category ∙ c.1 in
+    let one = ap (λ n. n == 1) is.one ∙ o.1 in
+    let sign = ap sign_at is.sign ∙ s.1 in (
+      i,
+      is.below,
+      alike_by f style (key_at i) k
+          ((λ j. around_by f.style (sign j)
+          (pattern_for (category j) (one j) (compact_patterns f.formats style (magnitude j))))
+          ∙ ap (λ ps. around_by f.style k.sign (pattern_for k.category k.is_one ps))
+          (sym (same_patterns f.formats style k.magnitude)))
+          (ap (λ n. outer_by f (category_at n)) is.whole ∙ sym (same_outer f alone k.whole)) sign
+          (ap (exponent_at f.notation) magnitude ∙ sym (same_exponent_at f.notation exponents k.magnitude)),
+    )

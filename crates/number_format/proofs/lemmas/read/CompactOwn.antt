@@ -1,0 +1,148 @@
+-- Whether a significand is written with the texts of a pattern.
+use Rattle.std.proofs.{Common.{◌≡◌, ℕ, Bool, true, false, List, ◌++◌, inl, inr, refl, sym, ◌∙◌, ap, subst}}
+use Rattle.std.specs.{Prelude.{◌↔◌, ◌⊎◌, IsTrue, Result, Ok, Err, ℤ, pos, ◌≤ℤ◌}, List.Contains}
+use Rattle.decimal_unsigned.specs.{Unsigned.IsValue, declared.error.ParseError.{ParseError, TheVariants.Syntax}}
+use Rattle.fixed_decimal.specs.{Decimal.Decimal}
+use Rattle.plural_rules.specs.{Operands.plain, declared.rules.PluralCategory.PluralCategory}
+use Rattle.locale_data.specs.{Plurals.IsCategoryAt, declared.compact.CompactStyle.CompactStyle}
+use Rattle.decimal_format.specs.{Formatted.absolute_text, Reading.IsRead, Symbols.{Affixes, affixes}}
+use Rattle.number_format.specs.{declared.{format.formatter.NumberFormatter.NumberFormatter, read.{compact.keys.CompactKey.CompactKey, pattern.NumberPattern.NumberPattern}}, AffixedTexts.{Reader, shifted, IsNumeral, IsWritten, IsWrittenBy}, CompactReading.{word_pattern, word_reader, magnitude_by, is_unit, HasTextsOf, IsOwnInWords, IsOwnKey, IsOwnPattern, IsReadShownInWords, IsShownInWords, IsTimes, IsReadInAnyWords, IsWordReader}, Scaled.exponent_at}
+use Rattle.number_format.proofs.lemmas.{range.RangeEnds.category_unique, read.{AffixedNumbers.two_texts, CompactTexts.small_exponent}}
+
+module _ (f : NumberFormatter) (style : CompactStyle) (v : Decimal) (p : NumberPattern) (m : ℤ) (c : PluralCategory)
+    (magnitude : m ≡ magnitude_by v.absolute p.exponent) (of_value : IsCategoryAt f.rules (plain v.absolute) c)
+    (sign : p.sign ≡ v.sign) where
+  abbrev pub key : Bool → CompactKey
+  key one = record { magnitude = m; category = c; is_one = one; whole = PluralCategory.Other; sign = p.sign }
+
+  own_by : (one : Bool) → (one ≡ true → is_unit v.absolute ≡ true) → exponent_at f.notation m ≡ p.exponent
+      → HasTextsOf f style p (key one) → IsOwnPattern f style v p
+  own_by one unit exponent has = record {
+    key = record (key one) { whole = has.0 };
+    own = record {
+      magnitude = magnitude ∙ ap (magnitude_by v.absolute) (sym exponent);
+      category = of_value;
+      is_one = unit;
+      sign = sign;
+    };
+    is = (has.1, refl, sym exponent);
+  }
+
+  own_magnitude : (own : IsOwnPattern f style v p) → own.key.magnitude ≡ m
+  own_magnitude own = own.own.magnitude ∙ ap (magnitude_by v.absolute) (sym own.is.1.1) ∙ sym magnitude
+
+  pub own_exponent : IsOwnPattern f style v p → exponent_at f.notation m ≡ p.exponent
+  own_exponent own = ap (exponent_at f.notation) (sym (own_magnitude own)) ∙ sym own.is.1.1
+
+  texts_by : (own : IsOwnPattern f style v p) → HasTextsOf f style p (key own.key.is_one)
+  texts_by own =
+      let k = own.key in
+      let category = category_unique f.rules (plain v.absolute) k.category c own.own.category of_value in
+      let same : k ≡ record (key k.is_one) { whole = k.whole } =
+      λ i. record {
+        magnitude = own_magnitude own i;
+        category = category i;
+        is_one = k.is_one;
+        whole = k.whole;
+        sign = sym own.is.1.0 i;
+      } in
+      (k.whole, own.is.0 ∙ ap (λ x. (word_pattern f style x).affixes) same)
+
+  -- a test of the texts for another number than 1, and one for 1
+  pub own_if : (plural unit singular : Bool) → exponent_at f.notation m ≡ p.exponent
+      → IsTrue plural ↔ HasTextsOf f style p (key false) → unit ≡ is_unit v.absolute
+      → IsTrue singular ↔ HasTextsOf f style p (key true)
+      → (IsOwnPattern f style v p → IsTrue plural ⊎ (IsTrue unit × IsTrue singular))
+      × (IsTrue plural → IsOwnPattern f style v p) × (IsTrue unit → IsTrue singular → IsOwnPattern f style v p)
+  own_if plural unit singular exponent by_plural is by_singular = (
+    λ own. by own.key.is_one (texts_by own) own.own.is_one,
+    λ t. own_by false (λ e. absurd (cc)) exponent (by_plural.0 t),
+    λ t s. own_by true (λ e. sym is ∙ true_of unit t) exponent (by_singular.0 s),
+  )
+    where
+      true_of : (b : Bool) → IsTrue b → b ≡ true
+      true_of true t = refl
+      true_of false t = absurd (cc)
+
+      to_true : (b : Bool) → b ≡ true → IsTrue b
+      to_true true e = refl
+      to_true false e = absurd (cc)
+
+      by : (one : Bool) → HasTextsOf f style p (key one) → (one ≡ true → is_unit v.absolute ≡ true)
+          → IsTrue plural ⊎ (IsTrue unit × IsTrue singular)
+      by false has unit_is = inl (by_plural.1 has)
+      by true has unit_is = inr (to_true unit (is ∙ unit_is refl), by_singular.1 has)
+
+-- ---- What is read.
+
+module _ (f : NumberFormatter) (style : CompactStyle) (r : Reader) (is : IsWordReader f style r) where
+  -- the exponents of patterns are small
+  pub pattern_exponent : (p : NumberPattern) → Contains r.patterns p
+      → (pos 0 ≤ℤ p.exponent) × (p.exponent ≤ℤ pos 19)
+  pattern_exponent p listed =
+      let k = is.patterns.only p listed in
+      subst (λ (x : NumberPattern). (pos 0 ≤ℤ x.exponent) × (x.exponent ≤ℤ pos 19)) (sym k.1)
+      (small_exponent f.notation is.exponents k.0.magnitude)
+
+  module _ (inline : ℕ) (text : List ℕ) where
+    abbrev pub IsReadHere : Result Decimal ParseError → Type 0
+    IsReadHere = IsRead inline (IsNumeral r text) (IsWritten r text)
+
+    abbrev IsReadThere : Reader → Result Decimal ParseError → Type 0
+    IsReadThere q = IsRead inline (IsNumeral q text) (IsWritten q text)
+
+    there : (found : Result Decimal ParseError) → IsReadHere found → IsReadThere (word_reader f r.patterns) found
+    there found read = subst (λ (q : Reader). IsReadThere q found) is.reader read
+
+    -- nothing is found
+    pub read_error : (e : ParseError) → IsReadHere (Err e) → IsReadShownInWords inline f style text (Err e)
+    read_error e read = (r.patterns, Err e, is.patterns, there (Err e) read, refl)
+
+    pub any_error : (e : ParseError) → IsReadHere (Err e) → IsReadInAnyWords inline f style text (Err e)
+    any_error e read = (r.patterns, Err e, is.patterns, there (Err e) read, refl)
+
+    module _ (v : Decimal) (p : NumberPattern) (by : IsWrittenBy r text v p) (read : IsReadHere (Ok v))
+        (result : Result Decimal ParseError) where
+      symbols : r.symbols ≡ f.style.symbols
+      symbols = ap (λ (q : Reader). q.symbols) is.reader
+
+      text_is : text ≡ p.affixes.prefix ++ (absolute_text f.style.symbols by.strategy v.absolute ++ p.affixes.suffix)
+      text_is = by.is ∙ (λ i. p.affixes.prefix ++ (absolute_text (symbols i) by.strategy v.absolute ++ p.affixes.suffix))
+
+      shown_of : (own : IsOwnPattern f style v p) → IsShownInWords f style text v p.exponent
+      shown_of own = record {
+        key = own.key;
+        own = own.own;
+        exponent = sym own.is.1.1;
+        strategy = by.strategy;
+        is = text_is ∙ ap (λ (a : Affixes). a.prefix
+            ++ (absolute_text f.style.symbols by.strategy v.absolute ++ a.suffix)) own.is.0;
+      }
+
+      pub read_own : IsOwnPattern f style v p → result ≡ shifted p.exponent (Ok v)
+          → IsReadShownInWords inline f style text result
+      read_own own e =
+          (r.patterns, Ok v, is.patterns, there (Ok v) read, inl (p.exponent, shown_of own, e))
+
+      own_of : (e : ℤ) → IsShownInWords f style text v e → IsOwnPattern f style v p
+      own_of e shown =
+          let q = word_pattern f style shown.key in
+          let same = two_texts f.style.symbols is.readable p q
+          (is.named.pair p q by.listed (is.patterns.all shown.key)) v v read.found.0 read.found.0 by.sign
+          shown.own.sign by.strategy shown.strategy (sym text_is ∙ shown.is) in
+          record { key = shown.key; own = shown.own; is = same.0 }
+
+      pub read_other : ¬ IsOwnPattern f style v p → IsReadShownInWords inline f style text (Err Syntax)
+      read_other other =
+          (r.patterns, Ok v, is.patterns, there (Ok v) read, inr (λ e shown. other (own_of e shown), refl))
+
+      pub read_any : result ≡ shifted p.exponent (Ok v) → IsReadInAnyWords inline f style text result
+      read_any e = (
+        r.patterns,
+        Ok v,
+        is.patterns,
+        there (Ok v) read,
+        p,
+        subst (λ (q : Reader). IsWrittenBy q text v p) is.reader by,
+        e,
+      )
