@@ -1,5 +1,5 @@
 -- Numbers in compact notation: the texts around them, and which are read.
-use Rattle.std.specs.{Prelude.{◌≡◌, ℕ, ◌<◌, ◌/◌, ◌%◌, ◌+◌, ◌==◌, Bool, true, ◌&&◌, ◌⊎◌, List, ◌++◌, Option, None, Result, Ok, Err, ℤ, pos, ◌+ℤ◌, ◌-ℤ◌}, Int.int_min, List.Contains}
+use Rattle.std.specs.{Prelude.{◌≡◌, ℕ, zero, suc, ◌<◌, ◌/◌, ◌%◌, ◌+◌, ◌==◌, Bool, true, false, ◌&&◌, ◌⊎◌, List, ◌++◌, Option, None, Result, Ok, Err, ℤ, pos, ◌+ℤ◌, ◌-ℤ◌}, Int.int_min, List.Contains}
 use Rattle.decimal_digits.specs.Number.{first}
 use Rattle.decimal_unsigned.specs.{Unsigned.Unsigned, declared.error.ParseError.{ParseError, TheVariants.Syntax}}
 use Rattle.fixed_decimal.specs.{Decimal.Decimal, declared.variations.Sign.Sign}
@@ -7,7 +7,7 @@ use Rattle.plural_rules.specs.Operands as operands
 use Rattle.plural_rules.specs.declared.rules.PluralCategory.{PluralCategory}
 use Rattle.decimal_format.specs.{Formatted.absolute_text, Readable.IsReadable, Reading.IsRead, Symbols.affixes, declared.{grouping.GroupingStrategy.GroupingStrategy, reader.alternatives.Alternative.Alternative}}
 use Rattle.locale_data.specs.{Compact.{pattern_for, compact_patterns}, Plurals.IsCategoryAt, declared.compact.CompactStyle.CompactStyle}
-use Rattle.number_format.specs.{declared.{format.formatter.NumberFormatter.NumberFormatter, notation.Notation.Notation, read.{compact.keys.CompactKey.CompactKey, pattern.NumberPattern.NumberPattern}}, AffixedTexts.{AreNamed, AreSame, AreToldApart, Reader, between, shifted, IsWritten, IsWrittenBy, IsNumeral, IsShifted, IsOrElse, IsReadTyped}, NumberText.{around_by, outer_by}, PatternTexts.Around, Scaled.{exponent_at, IsOrdered}, TextParts.pieces_text}
+use Rattle.number_format.specs.{declared.{format.formatter.NumberFormatter.NumberFormatter, notation.Notation.Notation, options.NumberStyle.NumberStyle, read.{compact.keys.CompactKey.CompactKey, pattern.NumberPattern.NumberPattern}}, AffixedTexts.{AreNamed, AreSame, AreToldApart, Reader, between, shifted, IsWritten, IsWrittenBy, IsNumeral, IsShifted, IsOrElse, IsReadTyped}, NumberText.{around_by, outer_by}, PatternTexts.Around, Scaled.{exponent_at, IsOrdered}, TextParts.pieces_text}
 
 -- ---- The texts around numbers.
 
@@ -137,17 +137,17 @@ IsTypedInWords inline f style plain all text result =
 -- ---- Private: used only in the contracts of private functions.
 
 abbrev pub category_at : ℕ → PluralCategory
-category_at 0 = PluralCategory.Other
-category_at 1 = PluralCategory.One
-category_at 2 = PluralCategory.Two
-category_at 3 = PluralCategory.Few
-category_at 4 = PluralCategory.Many
-category_at other = PluralCategory.Zero
+category_at zero = PluralCategory.Other
+category_at (suc zero) = PluralCategory.One
+category_at (suc (suc zero)) = PluralCategory.Two
+category_at (suc (suc (suc zero))) = PluralCategory.Few
+category_at (suc (suc (suc (suc zero)))) = PluralCategory.Many
+category_at (suc (suc (suc (suc (suc other))))) = PluralCategory.Zero
 
 abbrev pub sign_at : ℕ → Sign
-sign_at 0 = Sign.None
-sign_at 1 = Sign.Negative
-sign_at other = Sign.Positive
+sign_at zero = Sign.None
+sign_at (suc zero) = Sign.Negative
+sign_at (suc (suc other)) = Sign.Positive
 
 -- the keys in an order: by magnitude, from 2 to 19, category, ..
 abbrev pub key_at : ℕ → CompactKey
@@ -158,6 +158,11 @@ key_at i = record {
   whole = category_at (i % 6 / 3);
   sign = sign_at (i % 3);
 }
+
+-- what is around the whole text depends on the plural category
+abbrev pub is_percent : NumberStyle → Bool
+is_percent NumberStyle.Percent = true
+is_percent other = false
 
 -- the patterns and the exponent of a magnitude are those of the one before it
 abbrev pub IsSameBefore : NumberFormatter → CompactStyle → ℤ → Type 0

@@ -18,3 +18,4 @@ pub mod CompactKeys
 pub mod CompactPatterns
 pub mod CompactTexts
 pub mod CompactOwn
+pub mod CompactOrder

@@ -51,8 +51,8 @@ impl StyleTexts {
         StyleTexts {
             symbols: self.symbols.copied(),
             pattern: self.pattern,
-            percent: self.percent,
-            currency: self.currency,
+            percent: self.percent.copied(),
+            currency: self.currency.copied(),
         }
     }
 

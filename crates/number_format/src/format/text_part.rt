@@ -59,4 +59,10 @@ impl<'f> TextPart<'f> {
     {
         TextPart { kind, text }
     }
+
+    pub(crate) fn copied(&self) -> Self
+        ensures { result ≡ self.now }
+    {
+        TextPart::new(self.kind, self.text)
+    }
 }

@@ -1,7 +1,7 @@
 //! Readers of what formatters write.
-ghost use Rattle.std.specs.Prelude.{◌≡◌, ◌↔◌, ◌≤◌, IsTrue, ◌∷◌, [], ◌++◌, ◌-ℤ◌, pos, length, take, map, flat_map, IfOk, IfErr, OnOk};
+ghost use Rattle.std.specs.Prelude.{◌≡◌, ◌↔◌, ◌≤◌, IsTrue, None, ◌∷◌, [], ◌++◌, ◌-ℤ◌, pos, length, take, map, flat_map, IfOk, IfErr, OnOk};
 ghost use Rattle.decimal_format.specs.Readable.{IsReadable};
-ghost use Rattle.number_format.specs.{AffixedTexts.AreNamed, NumberReading.{KeepsNotation, CanReadExponents, CanReadWords, CanReadAlone, CanReadNotation, HasPlainDigits, AreOwnWordsNamed, words_of, word_formatter, CanRead, CanUndo, CannotRead, percent_name, names_by, form, form_of, form_of_pattern, forms_of_name, patterns_of, number_reader_of, typed_forms, IsReadStrictly, IsTypedBy, IsReadLeniently, IsReadInMode}, Scaled.HasNoIncrement, ScientificReading.exponent_form};
+ghost use Rattle.number_format.specs.{AffixedTexts.AreNamed, NumberReading.{KeepsNotation, CanReadExponents, CanReadWords, CanReadAlone, CanReadNotation, HasPlainDigits, AreOwnWordsNamed, words_of, word_formatter, CanRead, CanUndo, CannotRead, percent_name, names_by, form, form_of, form_of_pattern, forms_of_name, patterns_of, number_reader_of, typed_forms, IsReadBy, IsReadStrictly, IsTypedBy, IsReadLeniently, IsReadInMode}, Scaled.HasNoIncrement, ScientificReading.exponent_form};
 
 use crate::digits::options::DigitOptions;
 use crate::digits::precision::Precision;
@@ -398,6 +398,19 @@ impl NumberReader {
         alternatives
     }
 
+    fn read_words<D: DigitStore>(
+        &self,
+        alloc: Global,
+        text: &[u8],
+    ) -> Result<Signed<UnsignedOver<D>>, ParseError>
+        ensures { IsReadBy D.L self.now.texts None self.now.words text.now result }
+    {
+        match &self.words {
+            Some(words) => words.read(alloc, text),
+            None => self.reader.read(alloc, text),
+        }
+    }
+
     /// Reads a number in exactly one of the forms that the formatter writes, and undoes its scale: by style `Percent`
     /// and scale 2 `12.5%` is 0.125.
     ///
@@ -423,10 +436,23 @@ impl NumberReader {
     ) -> Result<Signed<UnsignedOver<D>>, ParseError>
         ensures { IsReadStrictly D.L self.now text.now result }
     {
-        match (&self.exponent, &self.words) {
-            (Some(form), _) => self.reader.read_with_exponent(form, alloc, text),
-            (None, Some(words)) => words.read(alloc, text),
-            (None, None) => self.reader.read(alloc, text),
+        match &self.exponent {
+            Some(form) => self.reader.read_with_exponent(form, alloc, text),
+            None => self.read_words(alloc, text),
+        }
+    }
+
+    fn read_typed_words<D: DigitStore>(
+        &self,
+        alloc: Global,
+        alternatives: &[Alternative<'_>],
+        text: &str,
+    ) -> Result<Signed<UnsignedOver<D>>, ParseError>
+        ensures { IsTypedBy D.L self.now.texts None self.now.words alternatives.now text.now result }
+    {
+        match &self.words {
+            Some(words) => words.read_lenient(&self.reader, alloc, alternatives, text),
+            None => self.reader.read_lenient(alloc, alternatives, text),
         }
     }
 
@@ -436,15 +462,14 @@ impl NumberReader {
         alternatives: &[Alternative<'_>],
         text: &str,
     ) -> Result<Signed<UnsignedOver<D>>, ParseError>
-        ensures { IsTypedBy D.L self.now.texts self.now.exponent alternatives.now text.now result }
+        ensures { IsTypedBy D.L self.now.texts self.now.exponent self.now.words alternatives.now text.now result }
     {
-        match (&self.exponent, &self.words) {
-            (Some(form), _) => {
+        match &self.exponent {
+            Some(form) => {
                 self.reader
                     .read_lenient_with_exponent(form, alloc, alternatives, text)
             }
-            (None, Some(words)) => words.read_lenient(&self.reader, alloc, alternatives, text),
-            (None, None) => self.reader.read_lenient(alloc, alternatives, text),
+            None => self.read_typed_words(alloc, alternatives, text),
         }
     }
 

@@ -1,12 +1,12 @@
 -- Each key of compact notation has the texts of one of the magnitudes 2 to 19.
-use Rattle.std.proofs.{Common.{◌≡◌, ℕ, suc, ◌+◌, ◌*◌, ◌/◌, ◌%◌, ◌<◌, ◌==◌, ◌&&◌, Bool, true, false, nat_lt, cond, List, [], ◌∷◌, ◌++◌, refl, sym, ◌∙◌, ap, arith}, lemmas.{Bool.{and_parts, Decides.nat_tests}, Int.{ints, clamps}}}
+use Rattle.std.proofs.{Common.{◌≡◌, ℕ, suc, ◌+◌, ◌-◌, ◌*◌, ◌/◌, ◌%◌, ◌<◌, ◌≤◌, ◌==◌, ◌&&◌, Bool, true, false, nat_lt, cond, List, [], ◌∷◌, ◌++◌, refl, sym, ◌∙◌, ap, arith}, lemmas.{Bool.{and_parts, Decides.nat_tests}, Int.{ints, clamps}}}
 use Rattle.std.specs.{Prelude.{Option, Some, None, slice_get, slice_index, option_and_then, if◌then◌else◌, ℤ, pos, unsigned_abs, ◌-ℤ◌, ◌≤ℤ◌, int_lt, int_le}, Int.{int_max, int_min}, List.{list_all, Contains}, Option.option_map_or}
 use Rattle.fixed_decimal.specs.declared.variations.Sign.{Sign}
 use Rattle.plural_rules.specs.declared.rules.PluralCategory.{PluralCategory}
 use Rattle.decimal_format.specs.Symbols.{affixes}
-use Rattle.locale_data.specs.{declared.{tables.{rows.{compact.{CompactRun.CompactRun, CompactSet.CompactSet, PercentUnit.PercentUnit}, TableRange.TableRange}, compact.TheConstants.{COMPACT_RUNS, COMPACT_SETS, COMPACT_PATTERNS, PERCENT_UNITS}}, compact.CompactStyle.CompactStyle, number_formats.NumberFormats.NumberFormats}, Compact.{compact_patterns, pattern_for, rows_of, run_at}, Rows.part}
-use Rattle.locale_data.proofs.lemmas.tables.{EachRow.passes, TableTexts.contains-part}
-use Rattle.number_format.specs.{declared.{format.{outer.OuterTexts.OuterTexts, formatter.NumberFormatter.NumberFormatter, text_part.PartKind.PartKind}, notation.{CompactExponents.CompactExponents, Notation.Notation}, options.NumberStyle.NumberStyle, read.{compact.keys.CompactKey.CompactKey, pattern.NumberPattern.NumberPattern}}, CompactReading.{inner_at, word_pattern, key_at, category_at, sign_at, AreAlike, HasCompactExponents}, NumberText.{around_by, around_texts, outer_by, outer_texts, percent_texts}, NumberReading.words_of, PatternTexts.Around, Scaled.{compact_exponent, exponent_at}, TextParts.pieces_text}
+use Rattle.locale_data.specs.{declared.{tables.{rows.{compact.{CompactRun.CompactRun, CompactSet.CompactSet, PercentUnit.PercentUnit}, TableRange.TableRange}, compact.TheConstants.{COMPACT_RUNS, COMPACT_SETS, COMPACT_PATTERNS, PERCENT_UNITS}}, compact.CompactStyle.CompactStyle, number_formats.NumberFormats.NumberFormats}, Compact.{compact_patterns, needs_category, pattern_for, rows_of, run_at}, Rows.part}
+use Rattle.locale_data.proofs.lemmas.tables.{CompactRows.same_pattern, EachRow.passes, TableTexts.contains-part}
+use Rattle.number_format.specs.{declared.{format.{outer.OuterTexts.OuterTexts, formatter.NumberFormatter.NumberFormatter, text_part.PartKind.PartKind}, notation.{CompactExponents.CompactExponents, Notation.Notation}, options.NumberStyle.NumberStyle, read.{compact.keys.CompactKey.CompactKey, pattern.NumberPattern.NumberPattern}}, CompactReading.{inner_at, word_pattern, key_at, category_at, sign_at, is_percent, AreAlike, HasCompactExponents, IsSameBefore, RepeatsAnother}, NumberText.{around_by, around_texts, outer_by, outer_texts, percent_texts}, NumberReading.words_of, PatternTexts.Around, Scaled.{compact_exponent, exponent_at}, TextParts.pieces_text}
 
 -- ---- Magnitudes.
 
@@ -45,7 +45,7 @@ same_below m = grind (arith, ints, clamps)
 same_row : (m : ℤ) → int_min (int_max m (pos 3)) (pos 19) ≡ int_min (int_max (clamped m) (pos 3)) (pos 19)
 same_row m = grind (arith, ints, clamps)
 
-same_exponent : (table : CompactExponents) (m : ℤ) → compact_exponent table m ≡ compact_exponent table (clamped m)
+pub same_exponent : (table : CompactExponents) (m : ℤ) → compact_exponent table m ≡ compact_exponent table (clamped m)
 same_exponent table m = λ i.
     if same_below m i then pos 0 else pos (slice_index table.rows (unsigned_abs (same_row m i -ℤ pos 3)))
 
@@ -89,6 +89,24 @@ same_outer f alone c =
     (λ i. outer_texts f.formats (alone i) (words_of f) f.options.style c)
     ∙ same_texts f.formats (words_of f) f.options.style c
     ∙ (λ i. outer_texts f.formats (sym alone i) (words_of f) f.options.style (category_at (whole_code c)))
+
+-- without a percent sign it is the same for each category
+plain_texts : (formats : NumberFormats) (words : Option CompactStyle) (style : NumberStyle) → is_percent style ≡ false
+    → (c d : PluralCategory)
+    → outer_texts formats OuterTexts.None words style c ≡ outer_texts formats OuterTexts.None words style d
+plain_texts formats None style plain c d = refl
+plain_texts formats (Some w) NumberStyle.Percent plain c d = absurd (cc)
+plain_texts formats (Some w) NumberStyle.Permille plain c d = refl
+plain_texts formats (Some w) NumberStyle.Decimal plain c d = refl
+plain_texts formats (Some w) (NumberStyle.Currency x) plain c d = refl
+plain_texts formats (Some w) (NumberStyle.Unit x) plain c d = refl
+
+plain_outer : (f : NumberFormatter) → f.outer ≡ OuterTexts.None → is_percent f.options.style ≡ false
+    → (c d : PluralCategory) → outer_by f c ≡ outer_by f d
+plain_outer f alone plain c d =
+    (λ i. outer_texts f.formats (alone i) (words_of f) f.options.style c)
+    ∙ plain_texts f.formats (words_of f) f.options.style plain c d
+    ∙ (λ i. outer_texts f.formats (sym alone i) (words_of f) f.options.style d)
 
 -- ---- Keys.
 
@@ -202,3 +220,64 @@ index_of f style alone exponents k =
           (ap (λ n. outer_by f (category_at n)) is.whole ∙ sym (same_outer f alone k.whole)) sign
           (ap (exponent_at f.notation) magnitude ∙ sym (same_exponent_at f.notation exponents k.magnitude)),
     )
+
+-- ---- Keys that repeat another.
+
+module _ (f : NumberFormatter) (style : CompactStyle) (i : ℕ) where
+  pub repeats_magnitude : 72 ≤ i → IsSameBefore f style (key_at i).magnitude → RepeatsAnother f style i
+  repeats_magnitude from same =
+      let j = i - 72 in
+      let k = key_at i in
+      let magnitude : pos (j / 72 + 2) ≡ (k.magnitude -ℤ pos 1) = omega (arith, ints, from) in
+      let category : j % 72 / 12 ≡ i % 72 / 12 = omega (arith, from) in
+      let one : j % 12 / 6 ≡ i % 12 / 6 = omega (arith, from) in
+      let whole : j % 6 / 3 ≡ i % 6 / 3 = omega (arith, from) in
+      let sign : j % 3 ≡ i % 3 = omega (arith, from) in (
+        j,
+        omega (arith, from),
+        alike_by f style (key_at j) k
+            ((λ n. around_by f.style (sign_at (sign n))
+            (pattern_for (category_at (category n)) (one n == 1) (compact_patterns f.formats style (magnitude n))))
+            ∙ ap (λ ps. around_by f.style k.sign (pattern_for k.category k.is_one ps)) (sym same.0))
+            (ap (λ n. outer_by f (category_at n)) whole) (ap sign_at sign)
+            (ap (exponent_at f.notation) magnitude ∙ sym same.1),
+      )
+
+  pub repeats_choice : 6 ≤ i % 72 → needs_category (compact_patterns f.formats style (key_at i).magnitude) ≡ false
+      → RepeatsAnother f style i
+  repeats_choice from none =
+      let j = i / 72 * 72 + i % 6 in
+      let k = key_at i in
+      let ps = compact_patterns f.formats style k.magnitude in
+      let magnitude : j / 72 ≡ i / 72 = omega arith in
+      let category : j % 72 / 12 ≡ 0 = omega arith in
+      let one : j % 12 / 6 ≡ 0 = omega arith in
+      let whole : j % 6 / 3 ≡ i % 6 / 3 = omega arith in
+      let sign : j % 3 ≡ i % 3 = omega arith in (
+        j,
+        omega (arith, from),
+        alike_by f style (key_at j) k
+            ((λ n. around_by f.style (sign_at (sign n)) (pattern_for (category_at (category n)) (one n == 1)
+            (compact_patterns f.formats style (pos (magnitude n + 2)))))
+            ∙ ap (around_by f.style k.sign) (same_pattern ps PluralCategory.Other k.category false k.is_one none))
+            (ap (λ n. outer_by f (category_at n)) whole) (ap sign_at sign)
+            (ap (λ n. exponent_at f.notation (pos (n + 2))) magnitude),
+      )
+
+  pub repeats_whole : 3 ≤ i % 6 → f.outer ≡ OuterTexts.None → is_percent f.options.style ≡ false
+      → RepeatsAnother f style i
+  repeats_whole from alone plain =
+      let j = i - 3 in
+      let k = key_at i in
+      let magnitude : j / 72 ≡ i / 72 = omega (arith, from) in
+      let category : j % 72 / 12 ≡ i % 72 / 12 = omega (arith, from) in
+      let one : j % 12 / 6 ≡ i % 12 / 6 = omega (arith, from) in
+      let sign : j % 3 ≡ i % 3 = omega (arith, from) in (
+        j,
+        omega (arith, from),
+        alike_by f style (key_at j) k
+            (λ n. around_by f.style (sign_at (sign n)) (pattern_for (category_at (category n)) (one n == 1)
+            (compact_patterns f.formats style (pos (magnitude n + 2)))))
+            (plain_outer f alone plain (key_at j).whole k.whole) (ap sign_at sign)
+            (ap (λ n. exponent_at f.notation (pos (n + 2))) magnitude),
+      )

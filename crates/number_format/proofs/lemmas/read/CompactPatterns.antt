@@ -1,6 +1,6 @@
 -- The patterns of compact notation, by the indexes of their keys.
-use Rattle.std.proofs.{Common.{◌≡◌, ℕ, ◌+◌, ◌<◌, ◌≤◌, Bool, true, false, List, inl, inr, refl, sym, ◌∙◌, subst, arith}, lemmas.Bool.cases_lt}
-use Rattle.std.specs.{Prelude.{◌↔◌, IsTrue}, List.Contains}
+use Rattle.std.proofs.{Common.{◌≡◌, ℕ, zero, suc, ◌+◌, ◌<◌, ◌≤◌, Bool, true, false, List, [], ◌∷◌, ◌++◌, inl, inr, refl, sym, ◌∙◌, subst, arith}, lemmas.Bool.cases_lt}
+use Rattle.std.specs.{Prelude.{◌↔◌, ◌⊎◌, IsTrue}, List.Contains}
 use Rattle.decimal_format.specs.Symbols.{Symbols}
 use Rattle.locale_data.specs.declared.compact.CompactStyle.{CompactStyle}
 use Rattle.number_format.specs.{declared.{format.{outer.OuterTexts.OuterTexts, formatter.NumberFormatter.NumberFormatter}, read.{compact.keys.CompactKey.CompactKey, pattern.NumberPattern.NumberPattern}}, AffixedTexts.{AreNamed, AreToldApart}, CompactReading.{inner_at, word_pattern, key_at, AreAlike, AreWordPatterns, AreWordsNamed, HasCompactExponents, HasWordNumbers, IsIndexApart, RepeatsAnother}}
@@ -25,6 +25,27 @@ module _ (Q : ℕ → Type 0) where
   pub all_of : (n end : ℕ) → end ≤ n → AllBelow n → AllBelow end
   all_of n end long all i below = all i (omega (arith, long, below))
 
+-- ---- A list with one element more.
+
+contains_last : (xs : List NumberPattern) (x : NumberPattern) → Contains (xs ++ x ∷ []) x
+contains_last [] x = (0, omega arith, refl)
+contains_last (y ∷ ys) x = let c = contains_last ys x in (suc c.0, omega (arith, c.1), c.2)
+
+contains_before : (xs : List NumberPattern) (x y : NumberPattern) → Contains xs y → Contains (xs ++ x ∷ []) y
+contains_before [] x y (k, below, e) = absurd (omega (arith, below))
+contains_before (z ∷ zs) x y (zero, below, e) = (0, omega arith, e)
+contains_before (z ∷ zs) x y (suc k, below, e) =
+    let c = contains_before zs x y (k, omega (arith, below), e) in (suc c.0, omega (arith, c.1), c.2)
+
+of_either : (xs : List NumberPattern) (x y : NumberPattern) → Contains (xs ++ x ∷ []) y → Contains xs y ⊎ (y ≡ x)
+of_either [] x y (zero, below, e) = inr (sym e)
+of_either [] x y (suc k, below, e) = absurd (omega (arith, below))
+of_either (z ∷ zs) x y (zero, below, e) = inl (0, omega arith, e)
+of_either (z ∷ zs) x y (suc k, below, e) = elim (of_either zs x y (k, omega (arith, below), e)) [
+  | inl c ↦ inl (suc c.0, omega (arith, c.1), c.2)
+  | inr same ↦ inr same
+]
+
 -- ---- What holds of each index holds of each key.
 
 module _ (f : NumberFormatter) (style : CompactStyle) where
@@ -48,6 +69,34 @@ module _ (f : NumberFormatter) (style : CompactStyle) where
       subst (λ p. AreToldApart f.style.symbols p (word_pattern f style (key_at l))) alike.pattern
       (all j (omega (arith, within, below)) l h)
 
+  -- patterns of keys, among them those of the first indexes
+  pub record AreFirstPatterns (n : ℕ) (patterns : List NumberPattern) : Type 0 where
+    pub all : AllBelow (λ i. Contains patterns (word_pattern f style (key_at i))) n
+    pub only : (p : NumberPattern) → Contains patterns p → (k : CompactKey) × (p ≡ word_pattern f style k)
+
+  pub no_patterns : AreFirstPatterns 0 []
+  no_patterns = record { all = λ i below. absurd (omega (arith, below)); only = λ p has. absurd (omega (arith, has.1)) }
+
+  pub pattern_again : (n : ℕ) (patterns : List NumberPattern) → AreFirstPatterns n patterns
+      → RepeatsAnother f style n → AreFirstPatterns (n + 1) patterns
+  pattern_again n patterns are (j, below, alike) = record {
+    all = one_more (λ i. Contains patterns (word_pattern f style (key_at i))) n are.all
+        (subst (Contains patterns) alike.pattern (are.all j below));
+    only = are.only;
+  }
+
+  pub pattern_more : (n : ℕ) (patterns : List NumberPattern) (p : NumberPattern) → AreFirstPatterns n patterns
+      → p ≡ word_pattern f style (key_at n) → AreFirstPatterns (n + 1) (patterns ++ p ∷ [])
+  pattern_more n patterns p are is = record {
+    all = one_more (λ i. Contains (patterns ++ p ∷ []) (word_pattern f style (key_at i))) n
+        (λ i below. contains_before patterns p _ (are.all i below))
+        (subst (Contains (patterns ++ p ∷ [])) is (contains_last patterns p));
+    only = λ q has. elim (of_either patterns p q has) [
+      | inl before ↦ are.only q before
+      | inr same ↦ (key_at n, same ∙ is)
+    ];
+  }
+
   module _ (alone : f.outer ≡ OuterTexts.None) (exponents : HasCompactExponents f.notation) where
     pub each_number : AllBelow HasNumberAt 1296 ↔ HasWordNumbers f style
     each_number = (
@@ -68,14 +117,13 @@ module _ (f : NumberFormatter) (style : CompactStyle) where
 
     -- ---- A list of all patterns.
 
-    pub are_patterns : (patterns : List NumberPattern)
-        → AllBelow (λ i. Contains patterns (word_pattern f style (key_at i))) 1296
-        → ((p : NumberPattern) → Contains patterns p → (k : CompactKey) × (p ≡ word_pattern f style k))
+    pub are_patterns : (n : ℕ) (patterns : List NumberPattern) → 1296 ≤ n → AreFirstPatterns n patterns
         → AreWordPatterns f style patterns
-    are_patterns patterns all only = record {
+    are_patterns n patterns long are = record {
       all = λ k.
-          let i = index_of f style alone exponents k in subst (Contains patterns) i.2.pattern (all i.0 i.1);
-      only = only;
+          let i = index_of f style alone exponents k in
+          subst (Contains patterns) i.2.pattern (are.all i.0 (omega (arith, long, i.1)));
+      only = are.only;
     }
 
   pub named_by_patterns : (patterns : List NumberPattern) → AreWordPatterns f style patterns

@@ -1,7 +1,7 @@
 //! The texts around numbers in compact notation.
 ghost use Rattle.std.specs.{Prelude.{◌≡◌, ◌↔◌, ◌<◌, ◌≤ℤ◌, pos, IsTrue, IfSome, IfOk}, Option.option_copied};
 ghost use Rattle.locale_data.specs.Compact.{pattern_for, patterns_in, compact_patterns, AreTexts};
-ghost use Rattle.number_format.specs.{CompactReading.{inner_at, word_pattern, key_at, IsSameBefore, RepeatsAnother, HasCompactExponents, HasWordNumbers, AreWordPatterns}, NumberText.AreParts};
+ghost use Rattle.number_format.specs.{CompactReading.{inner_at, word_pattern, key_at, is_percent, IsSameBefore, RepeatsAnother, HasCompactExponents, HasWordNumbers, AreWordPatterns}, NumberText.AreParts};
 
 use crate::format::affixes::NumberAffixes;
 use crate::format::formatter::NumberFormatter;
@@ -13,6 +13,12 @@ use crate::read::owned_affixes::OwnedAffixes;
 use crate::read::pattern::{NumberPattern, joined_texts};
 use locale_data::{CompactPattern, CompactPatterns, CompactStyle};
 use std::alloc::{AllocError, Global};
+
+fn is_percent(style: NumberStyle) -> bool
+    ensures { result ≡ is_percent style }
+{
+    matches!(style, NumberStyle::Percent)
+}
 
 impl NumberFormatter {
     fn words_at(&self, style: CompactStyle, magnitude: i16) -> CompactPatterns
@@ -68,7 +74,7 @@ impl NumberFormatter {
         if index % 72 >= 6 && !self.words_at(style, magnitude).needs_category() {
             return true;
         }
-        index % 6 >= 3 && !matches!(self.options.style, NumberStyle::Percent)
+        index % 6 >= 3 && !is_percent(self.options.style)
     }
 
     /// Returns whether each text has a number: `mille` has none.
