@@ -51,7 +51,7 @@ impl StyleTexts {
         StyleTexts {
             symbols: self.symbols.copied(),
             pattern: self.pattern,
-            percent: self.percent.copied(),
+            percent: self.percent,
             currency: self.currency.copied(),
         }
     }

@@ -50,7 +50,7 @@ impl ShownCurrency {
         ensures { result ≡ self.now }
     {
         ShownCurrency {
-            symbol: self.symbol.copied(),
+            symbol: self.symbol,
             code: self.code,
             shows_code: self.shows_code,
             space_before: self.space_before,

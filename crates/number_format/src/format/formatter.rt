@@ -135,7 +135,7 @@ impl NumberFormatter {
     {
         NumberFormatter {
             style: self.style.copied(),
-            separator: self.separator.copied(),
+            separator: self.separator,
             outer: self.outer,
             formats: self.formats,
             rules: self.rules,

@@ -59,10 +59,4 @@ impl<'f> TextPart<'f> {
     {
         TextPart { kind, text }
     }
-
-    pub(crate) fn copied(&self) -> Self
-        ensures { result ≡ self.now }
-    {
-        TextPart::new(self.kind, self.text)
-    }
 }

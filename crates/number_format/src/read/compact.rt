@@ -1,8 +1,6 @@
 //! Reading of numbers in compact notation.
 ghost use Rattle.std.specs.Prelude.{◌≡◌, ◌↔◌, ◌≤ℤ◌, ◌-ℤ◌, pos, IsTrue};
-ghost use Rattle.decimal_format.specs.Readable.{IsReadable};
-ghost use Rattle.locale_data.specs.Plurals.{IsCategoryAt};
-ghost use Rattle.plural_rules.specs.Operands.{plain};
+ghost use Rattle.decimal_format.specs.{Readable.IsReadable};
 ghost use Rattle.number_format.specs.{AffixedTexts.AreNamed, CompactReading.{word_pattern, magnitude_by, is_unit, HasCompactExponents, HasTextsOf, IsOwnPattern, IsReadShownInWords, IsReadInAnyWords, IsReadOrAny, IsReadInWords, IsTypedInWords, AreWordPatterns}};
 
 mod apart;
@@ -17,7 +15,7 @@ use crate::read::compact::keys::CompactKey;
 use crate::read::pattern::NumberPattern;
 use decimal_format::internal::Alternative;
 use fixed_decimal::{DigitStore, ParseError, Signed, UnsignedOver};
-use locale_data::{CompactStyle, plural_category_at};
+use locale_data::CompactStyle;
 use plural_rules::{PluralCategory, PluralOperands};
 use std::alloc::Global;
 use std::marker::Model;
@@ -97,17 +95,6 @@ impl CompactReader {
         }
     }
 
-    fn category<D: DigitStore>(&self, value: &Signed<UnsignedOver<D>>) -> PluralCategory
-        ensures { IsCategoryAt self.now.0.rules (plain value.now.absolute) result }
-    {
-        let rules = self.formatter.rules;
-        match plural_category_at(rules, &PluralOperands::of_decimal(value)) {
-            Some(category) => category,
-            // The rules of a formatter are listed.
-            None => PluralCategory::Other,
-        }
-    }
-
     fn has_texts(&self, pattern: &NumberPattern, key: CompactKey) -> bool
         ensures { IsTrue result ↔ (pattern.now.affixes ≡ (word_pattern self.now.0 self.now.1 key).affixes) }
     {
@@ -144,20 +131,19 @@ impl CompactReader {
         }
         let key = CompactKey {
             magnitude,
-            category: self.category(value),
+            category: self.reader.category(value),
             is_one: false,
             whole: PluralCategory::Other,
             sign: pattern.sign,
         };
-        self.has_texts_of(pattern, key)
-            || is_unit(value)
-                && self.has_texts_of(
-                    pattern,
-                    CompactKey {
-                        is_one: true,
-                        ..key
-                    },
-                )
+        if self.has_texts_of(pattern, key) {
+            return true;
+        }
+        let singular = CompactKey {
+            is_one: true,
+            ..key
+        };
+        is_unit(value) && self.has_texts_of(pattern, singular)
     }
 
     fn read_any<D: DigitStore>(

@@ -98,7 +98,7 @@ two_texts s readable p q apart v w valid valid' own other g h e =
     let plain = texts_are_unique s g h (record v { sign = None }) (record w { sign = None }) readable valid valid'
     (ap (λ t. t ++ []) same.1) in
     let absolute = ap (λ (d : Decimal). d.absolute) plain in
-    let sign = sym own ∙ same.0.1.0 ∙ other in
+    let sign = sym own ∙ same.0.1 ∙ other in
     (same.0, λ i. record { sign = sign i; absolute = absolute i })
 
 pub named_texts_are_unique : (r : Reader) → AreNamed r.symbols r.patterns → IsReadable r.symbols
@@ -161,7 +161,7 @@ module _ (r : Reader) (bytes : List ℕ) where
           q,
           record {
             listed = split.listed;
-            sign = sym same.0.1.0 ∙ x.sign;
+            sign = sym same.0.1 ∙ x.sign;
             strategy = x.strategy;
             is = x.is ∙ ap (λ (a : Affixes). a.prefix ++ (text ++ a.suffix)) same.0.0;
           },
@@ -234,7 +234,7 @@ module _ (r : Reader) (bytes : List ℕ) where
         → (v.sign ≡ p.sign) × reading.IsWritten r.symbols (record v { sign = None }) middle
     value_down v valid (q, x) =
         let same = only_middle q _ x.listed (value_between v valid q x) in
-        (sym x.sign ∙ sym same.0.1.0, (x.strategy, same.1 ∙ sym (append-nil _)))
+        (sym x.sign ∙ sym same.0.1, (x.strategy, same.1 ∙ sym (append-nil _)))
 
     pub read_between : (inline : ℕ) (result : Result Decimal ParseError)
         → IsRead inline (reading.IsNumeral r.symbols middle) (λ v. reading.IsWritten r.symbols v middle) result
@@ -246,7 +246,7 @@ module _ (r : Reader) (bytes : List ℕ) where
     by_pattern v valid (q, x) =
         let same = only_middle q _ x.listed (value_between v valid q x) in record {
           listed = inside.listed;
-          sign = same.0.1.0 ∙ x.sign;
+          sign = same.0.1 ∙ x.sign;
           strategy = x.strategy;
           is = x.is
               ∙ ap (λ (a : Affixes). a.prefix ++ (absolute_text r.symbols x.strategy v.absolute ++ a.suffix))

@@ -60,7 +60,7 @@ same_exponent_at Notation.Engineering has m = absurd has
 
 abbrev pub whole_code : PluralCategory → ℕ
 whole_code PluralCategory.One = 1
-whole_code other = 0
+whole_code _ = 0
 
 same_percent : (unit : Option PercentUnit) (c : PluralCategory)
     → percent_texts unit c ≡ percent_texts unit (category_at (whole_code c))
@@ -110,22 +110,22 @@ plain_outer f alone plain c d =
 
 -- ---- Keys.
 
+abbrev pattern_by : Around → Around → Sign → ℤ → NumberPattern
+pattern_by outer inner sign exponent = record {
+  affixes = affixes (pieces_text outer.prefix ++ pieces_text inner.prefix)
+      (pieces_text inner.suffix ++ pieces_text outer.suffix);
+  sign = sign;
+  category = None;
+  exponent = exponent;
+}
+
 pub alike_by : (f : NumberFormatter) (style : CompactStyle) (k l : CompactKey)
     → inner_at f style k ≡ inner_at f style l → outer_by f k.whole ≡ outer_by f l.whole → k.sign ≡ l.sign
     → exponent_at f.notation k.magnitude ≡ exponent_at f.notation l.magnitude → AreAlike f style k l
 alike_by f style k l inner outer sign exponent = record {
-  pattern = λ i. pattern (outer i) (inner i) (sign i) (exponent i);
+  pattern = λ i. pattern_by (outer i) (inner i) (sign i) (exponent i);
   has_number = ap (λ (a : Around). a.has_number) inner;
 }
-  where
-    abbrev pattern : Around → Around → Sign → ℤ → NumberPattern
-    pattern outer inner sign exponent = record {
-      affixes = affixes (pieces_text outer.prefix ++ pieces_text inner.prefix)
-          (pieces_text inner.suffix ++ pieces_text outer.suffix);
-      sign = sign;
-      category = None;
-      exponent = exponent;
-    }
 
 pub alike_twice : (f : NumberFormatter) (style : CompactStyle) (k l m : CompactKey) → AreAlike f style k l
     → AreAlike f style l m → AreAlike f style k m

@@ -1,6 +1,6 @@
 -- Whether a significand is written with the texts of a pattern.
 use Rattle.std.proofs.{Common.{◌≡◌, ℕ, Bool, true, false, List, ◌++◌, inl, inr, refl, sym, ◌∙◌, ap, subst}}
-use Rattle.std.specs.{Prelude.{◌↔◌, ◌⊎◌, IsTrue, Result, Ok, Err, ℤ, pos, ◌≤ℤ◌}, List.Contains}
+use Rattle.std.specs.{Prelude.{◌↔◌, IsTrue, Result, Ok, Err, ℤ, pos, ◌≤ℤ◌}, List.Contains}
 use Rattle.decimal_unsigned.specs.{Unsigned.IsValue, declared.error.ParseError.{ParseError, TheVariants.Syntax}}
 use Rattle.fixed_decimal.specs.{Decimal.Decimal}
 use Rattle.plural_rules.specs.{Operands.plain, declared.rules.PluralCategory.PluralCategory}
@@ -29,10 +29,10 @@ module _ (f : NumberFormatter) (style : CompactStyle) (v : Decimal) (p : NumberP
   }
 
   own_magnitude : (own : IsOwnPattern f style v p) → own.key.magnitude ≡ m
-  own_magnitude own = own.own.magnitude ∙ ap (magnitude_by v.absolute) (sym own.is.1.1) ∙ sym magnitude
+  own_magnitude own = own.own.magnitude ∙ ap (magnitude_by v.absolute) (sym own.is.2) ∙ sym magnitude
 
   pub own_exponent : IsOwnPattern f style v p → exponent_at f.notation m ≡ p.exponent
-  own_exponent own = ap (exponent_at f.notation) (sym (own_magnitude own)) ∙ sym own.is.1.1
+  own_exponent own = ap (exponent_at f.notation) (sym (own_magnitude own)) ∙ sym own.is.2
 
   texts_by : (own : IsOwnPattern f style v p) → HasTextsOf f style p (key own.key.is_one)
   texts_by own =
@@ -44,34 +44,40 @@ module _ (f : NumberFormatter) (style : CompactStyle) (v : Decimal) (p : NumberP
         category = category i;
         is_one = k.is_one;
         whole = k.whole;
-        sign = sym own.is.1.0 i;
+        sign = sym own.is.1 i;
       } in
       (k.whole, own.is.0 ∙ ap (λ x. (word_pattern f style x).affixes) same)
 
-  -- a test of the texts for another number than 1, and one for 1
-  pub own_if : (plural unit singular : Bool) → exponent_at f.notation m ≡ p.exponent
-      → IsTrue plural ↔ HasTextsOf f style p (key false) → unit ≡ is_unit v.absolute
-      → IsTrue singular ↔ HasTextsOf f style p (key true)
-      → (IsOwnPattern f style v p → IsTrue plural ⊎ (IsTrue unit × IsTrue singular))
-      × (IsTrue plural → IsOwnPattern f style v p) × (IsTrue unit → IsTrue singular → IsOwnPattern f style v p)
-  own_if plural unit singular exponent by_plural is by_singular = (
-    λ own. by own.key.is_one (texts_by own) own.own.is_one,
-    λ t. own_by false (λ e. absurd (cc)) exponent (by_plural.0 t),
-    λ t s. own_by true (λ e. sym is ∙ true_of unit t) exponent (by_singular.0 s),
+  -- the exponent is another one
+  pub not_own : (exponent_at f.notation m ≡ p.exponent → ⊥) → IsTrue false ↔ IsOwnPattern f style v p
+  not_own other = (λ t. absurd (cc), λ own. absurd (other (own_exponent own)))
+
+  -- the texts are those for another number than 1
+  pub own_plural : exponent_at f.notation m ≡ p.exponent → HasTextsOf f style p (key false)
+      → IsTrue true ↔ IsOwnPattern f style v p
+  own_plural exponent has = (λ t. own_by false (λ e. absurd (cc)) exponent has, λ own. refl)
+
+  -- they are not, and the number is no 1
+  pub not_unit : (b : Bool) → b ≡ is_unit v.absolute → b ≡ false → ¬ HasTextsOf f style p (key false)
+      → IsTrue false ↔ IsOwnPattern f style v p
+  not_unit b is no none = (λ t. absurd (cc), λ own. absurd (by own.key.is_one (texts_by own) own.own.is_one))
+    where
+      by : (one : Bool) → HasTextsOf f style p (key one) → (one ≡ true → is_unit v.absolute ≡ true) → ⊥
+      by false has unit = none has
+      by true has unit = absurd (let e = sym no ∙ is ∙ unit refl in cc)
+
+  -- it is 1, and the texts are those for 1 or not
+  pub own_singular : (b r : Bool) → b ≡ is_unit v.absolute → b ≡ true → exponent_at f.notation m ≡ p.exponent
+      → ¬ HasTextsOf f style p (key false) → IsTrue r ↔ HasTextsOf f style p (key true)
+      → IsTrue r ↔ IsOwnPattern f style v p
+  own_singular b r is yes exponent none test = (
+    λ t. own_by true (λ e. sym is ∙ yes) exponent (test.0 t),
+    λ own. by own.key.is_one (texts_by own),
   )
     where
-      true_of : (b : Bool) → IsTrue b → b ≡ true
-      true_of true t = refl
-      true_of false t = absurd (cc)
-
-      to_true : (b : Bool) → b ≡ true → IsTrue b
-      to_true true e = refl
-      to_true false e = absurd (cc)
-
-      by : (one : Bool) → HasTextsOf f style p (key one) → (one ≡ true → is_unit v.absolute ≡ true)
-          → IsTrue plural ⊎ (IsTrue unit × IsTrue singular)
-      by false has unit_is = inl (by_plural.1 has)
-      by true has unit_is = inr (to_true unit (is ∙ unit_is refl), by_singular.1 has)
+      by : (one : Bool) → HasTextsOf f style p (key one) → IsTrue r
+      by false has = absurd (none has)
+      by true has = test.1 has
 
 -- ---- What is read.
 
@@ -113,7 +119,7 @@ module _ (f : NumberFormatter) (style : CompactStyle) (r : Reader) (is : IsWordR
       shown_of own = record {
         key = own.key;
         own = own.own;
-        exponent = sym own.is.1.1;
+        exponent = sym own.is.2;
         strategy = by.strategy;
         is = text_is ∙ ap (λ (a : Affixes). a.prefix
             ++ (absolute_text f.style.symbols by.strategy v.absolute ++ a.suffix)) own.is.0;

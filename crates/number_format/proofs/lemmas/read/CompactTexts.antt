@@ -151,7 +151,7 @@ module _ (f : NumberFormatter) (style : CompactStyle) (words : words_of f ≡ So
     one_number text x y d e valid valid' a b =
         let same = two_texts f.style.symbols can.readable (word_pattern f style a.key) (word_pattern f style b.key)
         (named a.key b.key) x y valid valid' a.own.sign b.own.sign a.strategy b.strategy (sym a.is ∙ b.is) in
-        (same.1, sym a.exponent ∙ same.0.1.1 ∙ b.exponent)
+        (same.1, sym a.exponent ∙ same.0.2 ∙ b.exponent)
 
     -- what is shown is read back
     pub reads : (inline : ℕ) (text : List ℕ) (u : Decimal) (e : ℤ) (result : Result Decimal ParseError)

@@ -176,6 +176,6 @@ module _ (ids : FormatterIds) (o : NumberOptions) (f : NumberFormatter) (form : 
       let exponent = one_exponent s can.readable form keeps.1.separator text' v_as w_as here there in
       let absolute : x.absolute ≡ y.absolute =
       value_is v x valid p ∙ ap value_of significand ∙ sym (value_is w y valid' q) in (
-        (λ i. record { sign = one.0.1.0 i; absolute = absolute i }),
+        (λ i. record { sign = one.0.1 i; absolute = absolute i }),
         sym (exponent_of_shown v x valid p) ∙ exponent ∙ exponent_of_shown w y valid' q,
       )

@@ -37,7 +37,7 @@ module _ (r : Reader) (f : ExponentForm) (bytes : List ℕ) (inline : ℕ) where
         let here : IsScientificNumeral r.symbols f middle w =
         subst (λ b. IsScientificNumeral r.symbols f b w) (sym same.1) n.numeral in
         elim (is.value w here) [
-          | inl e ↦ inl (ap (signed p.sign) e ∙ ap (λ z. signed z (scientific_value w)) same.0.1.0)
+          | inl e ↦ inl (ap (signed p.sign) e ∙ ap (λ z. signed z (scientific_value w)) same.0.1)
           | inr m ↦ inr (ap (signed p.sign) m.0, m.1)
         ];
   }
