@@ -7,7 +7,7 @@ use Rattle.plural_rules.specs.Operands as operands
 use Rattle.plural_rules.specs.declared.rules.PluralCategory.{PluralCategory}
 use Rattle.decimal_format.specs.{Formatted.absolute_text, Readable.IsReadable, Reading.IsRead, Symbols.affixes, declared.{grouping.GroupingStrategy.GroupingStrategy, reader.alternatives.Alternative.Alternative}}
 use Rattle.locale_data.specs.{Compact.{pattern_for, compact_patterns}, Plurals.IsCategoryAt, declared.compact.CompactStyle.CompactStyle}
-use Rattle.number_format.specs.{declared.{format.formatter.NumberFormatter.NumberFormatter, notation.Notation.Notation, options.NumberStyle.NumberStyle, read.{compact.keys.CompactKey.CompactKey, pattern.NumberPattern.NumberPattern}}, AffixedTexts.{AreNamed, AreSame, AreToldApart, Reader, between, shifted, IsWritten, IsWrittenBy, IsNumeral, IsShifted, IsOrElse, IsReadTyped}, NumberText.{around_by, outer_by}, PatternTexts.Around, Scaled.{exponent_at, IsOrdered}, TextParts.pieces_text}
+use Rattle.number_format.specs.{declared.{format.{formatter.NumberFormatter.NumberFormatter, outer.OuterTexts.OuterTexts}, notation.Notation.Notation, options.NumberStyle.NumberStyle, read.{compact.keys.CompactKey.CompactKey, pattern.NumberPattern.NumberPattern}}, AffixedTexts.{AreNamed, AreSame, AreToldApart, Reader, between, shifted, IsWritten, IsWrittenBy, IsNumeral, IsShifted, IsOrElse, IsReadTyped}, NumberText.{around_by, outer_by}, PatternTexts.Around, Scaled.{exponent_at, IsOrdered}, TextParts.pieces_text}
 
 -- ---- The texts around numbers.
 
@@ -190,6 +190,12 @@ abbrev pub HasTextsOf : NumberFormatter → CompactStyle → NumberPattern → C
 HasTextsOf f style p k =
     (whole : PluralCategory) × (p.affixes ≡ (word_pattern f style (record k { whole = whole })).affixes)
 
+-- the significand times the power of ten of the pattern, if it has the texts of the pattern; else `Syntax`
+abbrev pub IsOwnOr : NumberFormatter → CompactStyle → NumberPattern → Decimal → Result Decimal ParseError → Type 0
+IsOwnOr f style p v result =
+    (IsOwnPattern f style v p × (result ≡ shifted p.exponent (Ok v)))
+    ⊎ (¬ IsOwnPattern f style v p × (result ≡ Err Syntax))
+
 -- what reads digits between the texts of all patterns
 pub record IsWordReader (f : NumberFormatter) (style : CompactStyle) (r : Reader) : Type 0 where
   pub reader : r ≡ word_reader f r.patterns
@@ -197,3 +203,4 @@ pub record IsWordReader (f : NumberFormatter) (style : CompactStyle) (r : Reader
   pub readable : IsReadable f.style.symbols
   pub named : AreNamed f.style.symbols r.patterns
   pub exponents : HasCompactExponents f.notation
+  pub alone : f.outer ≡ OuterTexts.None

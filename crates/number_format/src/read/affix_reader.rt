@@ -146,10 +146,7 @@ impl<'a> AffixReader<'a> {
         }
     }
 
-    pub(crate) fn category<D: DigitStore>(
-        &self,
-        value: &Signed<UnsignedOver<D>>,
-    ) -> PluralCategory
+    pub(crate) fn category<D: DigitStore>(&self, value: &Signed<UnsignedOver<D>>) -> PluralCategory
         ensures { IsCategoryAt self.now.rules (plain value.now.absolute) result }
     {
         match plural_category_at(self.rules, &PluralOperands::of_decimal(value)) {

@@ -45,6 +45,12 @@ pub(crate) fn are_same(first: Affixes<'_>, second: Affixes<'_>) -> bool
     first.prefix == second.prefix && first.suffix == second.suffix
 }
 
+pub(crate) fn are_same_powers(first: i32, second: i32) -> bool
+    ensures { IsTrue result ↔ (first ≡ second) }
+{
+    first == second
+}
+
 /// The sign of a pattern and its power of ten.
 pub(crate) type Meaning = (Sign, i32);
 
@@ -62,7 +68,7 @@ pub(crate) fn are_told_apart(
         ⊎ ArePairApart symbols.now a b) }
 {
     if first_meaning.0 == second_meaning.0
-        && first_meaning.1 == second_meaning.1
+        && are_same_powers(first_meaning.1, second_meaning.1)
         && are_same(first, second)
     {
         return true;

@@ -1,16 +1,17 @@
 //! Reading of numbers in compact notation.
-ghost use Rattle.std.specs.Prelude.{◌≡◌, ◌↔◌, ◌≤ℤ◌, ◌-ℤ◌, pos, IsTrue};
+ghost use Rattle.std.specs.Prelude.{◌≡◌, ◌↔◌, ◌≤ℤ◌, ◌-ℤ◌, pos, Ok, IsTrue};
 ghost use Rattle.decimal_format.specs.{Readable.IsReadable};
-ghost use Rattle.number_format.specs.{AffixedTexts.AreNamed, CompactReading.{word_pattern, magnitude_by, is_unit, HasCompactExponents, HasTextsOf, IsOwnPattern, IsReadShownInWords, IsReadInAnyWords, IsReadOrAny, IsReadInWords, IsTypedInWords, AreWordPatterns}};
+ghost use Rattle.number_format.specs.{AffixedTexts.{AreNamed, shifted}, CompactReading.{word_pattern, magnitude_by, is_unit, HasCompactExponents, HasTextsOf, IsOwnPattern, IsOwnOr, IsReadShownInWords, IsReadInAnyWords, IsReadOrAny, IsReadInWords, IsTypedInWords, AreWordPatterns}, Scaled.IsOrdered};
 
 mod apart;
 mod keys;
 mod words;
 
 use crate::format::formatter::NumberFormatter;
-use crate::notation::Notation;
+use crate::format::outer::OuterTexts;
+use crate::notation::{CompactExponents, Notation};
 use crate::read::affix_reader::{AffixReader, shifted};
-use crate::read::apart::are_same;
+use crate::read::apart::{are_same, are_same_powers};
 use crate::read::compact::keys::CompactKey;
 use crate::read::pattern::NumberPattern;
 use decimal_format::internal::Alternative;
@@ -55,20 +56,39 @@ fn is_unit<D: DigitStore>(value: &Signed<UnsignedOver<D>>) -> bool
     operands.i() == Some(1) && operands.w() == 0
 }
 
+fn times<D: DigitStore>(
+    pattern: &NumberPattern,
+    value: Signed<UnsignedOver<D>>,
+) -> Result<Signed<UnsignedOver<D>>, ParseError>
+    requires { (pos 0 ≤ℤ pattern.now.exponent) × (pattern.now.exponent ≤ℤ pos 255) }
+    ensures { result ≡ shifted pattern.now.exponent (Ok value) }
+{
+    shifted(Ok(value), pattern.exponent as i16)
+}
+
+fn are_ordered(exponents: &CompactExponents) -> bool
+    ensures { IsTrue result ↔ IsOrdered (Notation.Compact exponents.now) }
+{
+    let rows = &exponents.rows;
+    for index in 0..16 {
+        if rows[index] as usize > index + 3 {
+            return false;
+        }
+        if rows[index] > rows[index + 1] {
+            return false;
+        }
+    }
+    rows[16] <= 19
+}
+
 /// Returns whether the exponents are those of compact patterns, and none is above its magnitude or above the next one.
 pub(crate) fn has_compact_exponents(notation: &Notation) -> bool
     ensures { IsTrue result ↔ HasCompactExponents notation.now }
 {
-    let Notation::Compact(_) = notation else {
-        return false;
-    };
-    for magnitude in 0..20i16 {
-        let exponent = notation.exponent_at(magnitude);
-        if exponent > magnitude as i32 || exponent > notation.exponent_at(magnitude + 1) {
-            return false;
-        }
+    match notation {
+        Notation::Compact(exponents) => are_ordered(exponents),
+        _ => false,
     }
-    true
 }
 
 impl CompactReader {
@@ -81,6 +101,7 @@ impl CompactReader {
     ) -> Self
         requires readable { IsReadable formatter.style.symbols }
         requires exponents { HasCompactExponents formatter.notation }
+        requires alone { formatter.outer ≡ OuterTexts.None }
         requires patterns { AreWordPatterns formatter style patterns.items }
         requires named { AreNamed formatter.style.symbols patterns.items }
         requires shift { shift ≡ pos 0 -ℤ formatter.options.scale }
@@ -126,7 +147,8 @@ impl CompactReader {
         ensures { IsTrue result ↔ IsOwnPattern self.now.0 self.now.1 value.now pattern.now }
     {
         let magnitude = magnitude_by(value, pattern.exponent);
-        if self.formatter.notation.exponent_at(magnitude) != pattern.exponent {
+        let exponent = self.formatter.notation.exponent_at(magnitude);
+        if !are_same_powers(exponent, pattern.exponent) {
             return false;
         }
         let key = CompactKey {
@@ -146,6 +168,21 @@ impl CompactReader {
         is_unit(value) && self.has_texts_of(pattern, singular)
     }
 
+    fn own<D: DigitStore>(
+        &self,
+        pattern: &NumberPattern,
+        value: Signed<UnsignedOver<D>>,
+    ) -> Result<Signed<UnsignedOver<D>>, ParseError>
+        requires exponent { (pos 0 ≤ℤ pattern.now.exponent) × (pattern.now.exponent ≤ℤ pos 255) }
+        requires sign { pattern.now.sign ≡ value.sign }
+        ensures { IsOwnOr self.now.0 self.now.1 pattern.now value result }
+    {
+        if self.is_own(pattern, &value) {
+            return times(pattern, value);
+        }
+        Err(ParseError::Syntax)
+    }
+
     fn read_any<D: DigitStore>(
         &self,
         alloc: Global,
@@ -153,8 +190,10 @@ impl CompactReader {
     ) -> Result<Signed<UnsignedOver<D>>, ParseError>
         ensures { IsReadInAnyWords D.L self.now.0 self.now.1 text.now result }
     {
-        let (value, pattern) = self.reader.read_pattern(alloc, text)?;
-        shifted(Ok(value), pattern.exponent as i16)
+        match self.reader.read_pattern(alloc, text) {
+            Ok((value, pattern)) => times(pattern, value),
+            Err(error) => Err(error),
+        }
     }
 
     fn read_shown<D: DigitStore>(
@@ -164,11 +203,10 @@ impl CompactReader {
     ) -> Result<Signed<UnsignedOver<D>>, ParseError>
         ensures { IsReadShownInWords D.L self.now.0 self.now.1 text.now result }
     {
-        let (value, pattern) = self.reader.read_pattern(alloc, text)?;
-        if !self.is_own(pattern, &value) {
-            return Err(ParseError::Syntax);
+        match self.reader.read_pattern(alloc, text) {
+            Ok((value, pattern)) => self.own(pattern, value),
+            Err(error) => Err(error),
         }
-        shifted(Ok(value), pattern.exponent as i16)
     }
 
     fn read_typed<D: DigitStore>(

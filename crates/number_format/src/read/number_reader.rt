@@ -1,5 +1,5 @@
 //! Readers of what formatters write.
-ghost use Rattle.std.specs.Prelude.{◌≡◌, ◌↔◌, ◌≤◌, IsTrue, None, ◌∷◌, [], ◌++◌, ◌-ℤ◌, pos, length, take, map, flat_map, IfOk, IfErr, OnOk};
+ghost use Rattle.std.specs.Prelude.{◌≡◌, ◌↔◌, ◌≤◌, ◌⊎◌, IsTrue, Some, None, ◌∷◌, [], ◌++◌, ◌-ℤ◌, pos, length, take, map, flat_map, IfOk, IfErr, OnOk};
 ghost use Rattle.decimal_format.specs.Readable.{IsReadable};
 ghost use Rattle.number_format.specs.{AffixedTexts.AreNamed, NumberReading.{KeepsNotation, CanReadExponents, CanReadWords, CanReadAlone, CanReadNotation, HasPlainDigits, AreOwnWordsNamed, words_of, word_formatter, CanRead, CanUndo, CannotRead, percent_name, names_by, form, form_of, form_of_pattern, forms_of_name, patterns_of, number_reader_of, typed_forms, IsReadBy, IsReadStrictly, IsTypedBy, IsReadLeniently, IsReadInMode}, Scaled.HasNoIncrement, ScientificReading.exponent_form};
 
@@ -17,6 +17,7 @@ use crate::read::scientific::ExponentForm;
 use decimal_format::Affixes;
 use decimal_format::internal::Alternative;
 use fixed_decimal::{DigitStore, ParseError, Sign, Signed, UnsignedOver};
+use locale_data::CompactStyle;
 use plural_rules::PluralCategory;
 use std::alloc::{AllocError, Global};
 use std::marker::Model;
@@ -193,25 +194,43 @@ fn is_standard(notation: NumberNotation) -> bool
     matches!(notation, NumberNotation::Standard)
 }
 
+fn can_read_words_of(formatter: &NumberFormatter, style: CompactStyle) -> bool
+    requires { formatter.now.outer ≡ OuterTexts.None }
+    ensures { IsTrue result ↔ CanReadWords formatter.now (Some style) }
+{
+    if !keeps_notation(&formatter.digits) {
+        return false;
+    }
+    if !has_compact_exponents(&formatter.notation) {
+        return false;
+    }
+    formatter.has_word_numbers(style)
+}
+
 fn can_read_words(formatter: &NumberFormatter) -> bool
     requires { formatter.now.outer ≡ OuterTexts.None }
     ensures { IsTrue result ↔ CanReadWords formatter.now (words_of formatter.now) }
 {
     match formatter.options.compact_style() {
-        Some(style) => {
-            keeps_notation(&formatter.digits)
-                && has_compact_exponents(&formatter.notation)
-                && formatter.has_word_numbers(style)
-        }
+        Some(style) => can_read_words_of(formatter, style),
         None => false,
     }
+}
+
+fn can_read_other(formatter: &NumberFormatter) -> bool
+    requires { formatter.now.outer ≡ OuterTexts.None }
+    ensures { IsTrue result
+        ↔ (CanReadExponents formatter.now (exponent_form formatter.now formatter.now.options.notation)
+        ⊎ CanReadWords formatter.now (words_of formatter.now)) }
+{
+    can_read_exponents(formatter) || can_read_words(formatter)
 }
 
 fn can_read_alone(formatter: &NumberFormatter) -> bool
     ensures { IsTrue result ↔ CanReadAlone formatter.now }
 {
     match formatter.outer {
-        OuterTexts::None => can_read_exponents(formatter) || can_read_words(formatter),
+        OuterTexts::None => can_read_other(formatter),
         OuterTexts::Units(_) | OuterTexts::Names(_) => false,
     }
 }
@@ -333,11 +352,13 @@ impl NumberFormatter {
         requires readable { IsReadable self.now.style.symbols }
         ensures { CannotRead result self.now }
     {
-        if self.are_keys_apart(self.pattern_keys()) && self.are_own_words_apart() {
-            NumberReaderError::Memory
-        } else {
-            NumberReaderError::Affixes
+        if !self.are_keys_apart(self.pattern_keys()) {
+            return NumberReaderError::Affixes;
         }
+        if !self.are_own_words_apart() {
+            return NumberReaderError::Affixes;
+        }
+        NumberReaderError::Memory
     }
 
     fn named_patterns(&self, alloc: Global) -> Result<Vec<NumberPattern>, NumberReaderError>

@@ -1,83 +1,116 @@
 -- Whether a significand is written with the texts of a pattern.
 use Rattle.std.proofs.{Common.{◌≡◌, ℕ, Bool, true, false, List, ◌++◌, inl, inr, refl, sym, ◌∙◌, ap, subst}}
-use Rattle.std.specs.{Prelude.{◌↔◌, IsTrue, Result, Ok, Err, ℤ, pos, ◌≤ℤ◌}, List.Contains}
+use Rattle.std.specs.{Prelude.{◌↔◌, ◌⊎◌, IsTrue, Result, Ok, Err, ℤ, pos, ◌≤ℤ◌}, List.Contains}
 use Rattle.decimal_unsigned.specs.{Unsigned.IsValue, declared.error.ParseError.{ParseError, TheVariants.Syntax}}
 use Rattle.fixed_decimal.specs.{Decimal.Decimal}
 use Rattle.plural_rules.specs.{Operands.plain, declared.rules.PluralCategory.PluralCategory}
 use Rattle.locale_data.specs.{Plurals.IsCategoryAt, declared.compact.CompactStyle.CompactStyle}
 use Rattle.decimal_format.specs.{Formatted.absolute_text, Reading.IsRead, Symbols.{Affixes, affixes}}
-use Rattle.number_format.specs.{declared.{format.formatter.NumberFormatter.NumberFormatter, read.{compact.keys.CompactKey.CompactKey, pattern.NumberPattern.NumberPattern}}, AffixedTexts.{Reader, shifted, IsNumeral, IsWritten, IsWrittenBy}, CompactReading.{word_pattern, word_reader, magnitude_by, is_unit, HasTextsOf, IsOwnInWords, IsOwnKey, IsOwnPattern, IsReadShownInWords, IsShownInWords, IsTimes, IsReadInAnyWords, IsWordReader}, Scaled.exponent_at}
-use Rattle.number_format.proofs.lemmas.{range.RangeEnds.category_unique, read.{AffixedNumbers.two_texts, CompactTexts.small_exponent}}
+use Rattle.number_format.specs.{declared.{format.{formatter.NumberFormatter.NumberFormatter, outer.OuterTexts.OuterTexts}, read.{compact.keys.CompactKey.CompactKey, pattern.NumberPattern.NumberPattern}}, AffixedTexts.{Reader, shifted, IsNumeral, IsWritten, IsWrittenBy}, CompactReading.{inner_at, category_at, word_pattern, word_reader, magnitude_by, is_unit, HasTextsOf, IsOwnInWords, IsOwnKey, IsOwnOr, IsOwnPattern, IsReadShownInWords, IsShownInWords, IsTimes, IsReadInAnyWords, IsWordReader}, NumberText.outer_by, PatternTexts.Around, Scaled.exponent_at, TextParts.pieces_text}
+use Rattle.number_format.proofs.lemmas.{range.RangeEnds.category_unique, read.{AffixedNumbers.two_texts, CompactKeys.{same_outer, whole_code}, CompactTexts.small_exponent}}
 
-module _ (f : NumberFormatter) (style : CompactStyle) (v : Decimal) (p : NumberPattern) (m : ℤ) (c : PluralCategory)
-    (magnitude : m ≡ magnitude_by v.absolute p.exponent) (of_value : IsCategoryAt f.rules (plain v.absolute) c)
-    (sign : p.sign ≡ v.sign) where
-  abbrev pub key : Bool → CompactKey
-  key one = record { magnitude = m; category = c; is_one = one; whole = PluralCategory.Other; sign = p.sign }
-
-  own_by : (one : Bool) → (one ≡ true → is_unit v.absolute ≡ true) → exponent_at f.notation m ≡ p.exponent
-      → HasTextsOf f style p (key one) → IsOwnPattern f style v p
-  own_by one unit exponent has = record {
-    key = record (key one) { whole = has.0 };
-    own = record {
-      magnitude = magnitude ∙ ap (magnitude_by v.absolute) (sym exponent);
-      category = of_value;
-      is_one = unit;
-      sign = sign;
-    };
-    is = (has.1, refl, sym exponent);
-  }
-
+module _ (f : NumberFormatter) (style : CompactStyle) (v : Decimal) (p : NumberPattern) (m : ℤ)
+    (magnitude : m ≡ magnitude_by v.absolute p.exponent) (sign : p.sign ≡ v.sign) where
   own_magnitude : (own : IsOwnPattern f style v p) → own.key.magnitude ≡ m
   own_magnitude own = own.own.magnitude ∙ ap (magnitude_by v.absolute) (sym own.is.2) ∙ sym magnitude
 
-  pub own_exponent : IsOwnPattern f style v p → exponent_at f.notation m ≡ p.exponent
+  own_exponent : IsOwnPattern f style v p → exponent_at f.notation m ≡ p.exponent
   own_exponent own = ap (exponent_at f.notation) (sym (own_magnitude own)) ∙ sym own.is.2
-
-  texts_by : (own : IsOwnPattern f style v p) → HasTextsOf f style p (key own.key.is_one)
-  texts_by own =
-      let k = own.key in
-      let category = category_unique f.rules (plain v.absolute) k.category c own.own.category of_value in
-      let same : k ≡ record (key k.is_one) { whole = k.whole } =
-      λ i. record {
-        magnitude = own_magnitude own i;
-        category = category i;
-        is_one = k.is_one;
-        whole = k.whole;
-        sign = sym own.is.1 i;
-      } in
-      (k.whole, own.is.0 ∙ ap (λ x. (word_pattern f style x).affixes) same)
 
   -- the exponent is another one
   pub not_own : (exponent_at f.notation m ≡ p.exponent → ⊥) → IsTrue false ↔ IsOwnPattern f style v p
   not_own other = (λ t. absurd (cc), λ own. absurd (other (own_exponent own)))
 
-  -- the texts are those for another number than 1
-  pub own_plural : exponent_at f.notation m ≡ p.exponent → HasTextsOf f style p (key false)
-      → IsTrue true ↔ IsOwnPattern f style v p
-  own_plural exponent has = (λ t. own_by false (λ e. absurd (cc)) exponent has, λ own. refl)
+  module _ (c : PluralCategory) (of_value : IsCategoryAt f.rules (plain v.absolute) c) where
+    abbrev pub key : Bool → CompactKey
+    key one =
+        record { magnitude = m; category = c; is_one = one; whole = PluralCategory.Other; sign = p.sign }
 
-  -- they are not, and the number is no 1
-  pub not_unit : (b : Bool) → b ≡ is_unit v.absolute → b ≡ false → ¬ HasTextsOf f style p (key false)
-      → IsTrue false ↔ IsOwnPattern f style v p
-  not_unit b is no none = (λ t. absurd (cc), λ own. absurd (by own.key.is_one (texts_by own) own.own.is_one))
+    own_by : (one : Bool) → (one ≡ true → is_unit v.absolute ≡ true) → exponent_at f.notation m ≡ p.exponent
+        → HasTextsOf f style p (key one) → IsOwnPattern f style v p
+    own_by one unit exponent has = record {
+      key = record (key one) { whole = has.0 };
+      own = record {
+        magnitude = magnitude ∙ ap (magnitude_by v.absolute) (sym exponent);
+        category = of_value;
+        is_one = unit;
+        sign = sign;
+      };
+      is = (has.1, refl, sym exponent);
+    }
+
+    texts_by : (own : IsOwnPattern f style v p) → HasTextsOf f style p (key own.key.is_one)
+    texts_by own =
+        let k = own.key in
+        let category = category_unique f.rules (plain v.absolute) k.category c own.own.category of_value in
+        let same : k ≡ record (key k.is_one) { whole = k.whole } =
+        λ i. record {
+          magnitude = own_magnitude own i;
+          category = category i;
+          is_one = k.is_one;
+          whole = k.whole;
+          sign = sym own.is.1 i;
+        } in
+        (k.whole, own.is.0 ∙ ap (λ x. (word_pattern f style x).affixes) same)
+
+    -- the texts are those for another number than 1
+    pub own_plural : exponent_at f.notation m ≡ p.exponent → HasTextsOf f style p (key false)
+        → IsTrue true ↔ IsOwnPattern f style v p
+    own_plural exponent has = (λ t. own_by false (λ e. absurd (cc)) exponent has, λ own. refl)
+
+    -- they are not, and the number is no 1
+    pub not_unit : (b : Bool) → b ≡ is_unit v.absolute → b ≡ false → ¬ HasTextsOf f style p (key false)
+        → IsTrue false ↔ IsOwnPattern f style v p
+    not_unit b is no none = (λ t. absurd (cc), λ own. absurd (by own.key.is_one (texts_by own) own.own.is_one))
+      where
+        by : (one : Bool) → HasTextsOf f style p (key one) → (one ≡ true → is_unit v.absolute ≡ true) → ⊥
+        by false has unit = none has
+        by true has unit = absurd (let e = sym no ∙ is ∙ unit refl in cc)
+
+    -- it is 1, and the texts are those for 1 or not
+    pub own_singular : (b r : Bool) → b ≡ is_unit v.absolute → b ≡ true → exponent_at f.notation m ≡ p.exponent
+        → ¬ HasTextsOf f style p (key false) → IsTrue r ↔ HasTextsOf f style p (key true)
+        → IsTrue r ↔ IsOwnPattern f style v p
+    own_singular b r is yes exponent none test = (
+      λ t. own_by true (λ e. sym is ∙ yes) exponent (test.0 t),
+      λ own. by own.key.is_one (texts_by own),
+    )
+      where
+        by : (one : Bool) → HasTextsOf f style p (key one) → IsTrue r
+        by false has = absurd (none has)
+        by true has = test.1 has
+
+-- the texts of a key are those of the category `other` or `one` of the whole number
+module _ (f : NumberFormatter) (style : CompactStyle) (p : NumberPattern) (k : CompactKey)
+    (alone : f.outer ≡ OuterTexts.None) where
+  abbrev texts : Around → Affixes
+  texts outer = affixes (pieces_text outer.prefix ++ pieces_text (inner_at f style k).prefix)
+      (pieces_text (inner_at f style k).suffix ++ pieces_text outer.suffix)
+
+  abbrev HasTexts : PluralCategory → Type 0
+  HasTexts whole = p.affixes ≡ (word_pattern f style (record k { whole = whole })).affixes
+
+  one_of : HasTextsOf f style p k → HasTexts PluralCategory.Other ⊎ HasTexts PluralCategory.One
+  one_of (whole, e) = go whole (e ∙ ap texts (same_outer f alone whole))
     where
-      by : (one : Bool) → HasTextsOf f style p (key one) → (one ≡ true → is_unit v.absolute ≡ true) → ⊥
-      by false has unit = none has
-      by true has unit = absurd (let e = sym no ∙ is ∙ unit refl in cc)
+      go : (c : PluralCategory) → p.affixes ≡ texts (outer_by f (category_at (whole_code c)))
+          → HasTexts PluralCategory.Other ⊎ HasTexts PluralCategory.One
+      go PluralCategory.One e = inr e
+      go PluralCategory.Other e = inl e
+      go PluralCategory.Two e = inl e
+      go PluralCategory.Few e = inl e
+      go PluralCategory.Many e = inl e
+      go PluralCategory.Zero e = inl e
 
-  -- it is 1, and the texts are those for 1 or not
-  pub own_singular : (b r : Bool) → b ≡ is_unit v.absolute → b ≡ true → exponent_at f.notation m ≡ p.exponent
-      → ¬ HasTextsOf f style p (key false) → IsTrue r ↔ HasTextsOf f style p (key true)
-      → IsTrue r ↔ IsOwnPattern f style v p
-  own_singular b r is yes exponent none test = (
-    λ t. own_by true (λ e. sym is ∙ yes) exponent (test.0 t),
-    λ own. by own.key.is_one (texts_by own),
+  pub texts_of_other : HasTexts PluralCategory.Other → IsTrue true ↔ HasTextsOf f style p k
+  texts_of_other e = (λ t. (PluralCategory.Other, e), λ has. refl)
+
+  pub texts_of_one : (b : Bool) → ¬ HasTexts PluralCategory.Other → IsTrue b ↔ HasTexts PluralCategory.One
+      → IsTrue b ↔ HasTextsOf f style p k
+  texts_of_one b none test = (
+    λ t. (PluralCategory.One, test.0 t),
+    λ has. elim (one_of has) [ | inl e ↦ absurd (none e) | inr e ↦ test.1 e ],
   )
-    where
-      by : (one : Bool) → HasTextsOf f style p (key one) → IsTrue r
-      by false has = absurd (none has)
-      by true has = test.1 has
 
 -- ---- What is read.
 
@@ -125,7 +158,7 @@ module _ (f : NumberFormatter) (style : CompactStyle) (r : Reader) (is : IsWordR
             ++ (absolute_text f.style.symbols by.strategy v.absolute ++ a.suffix)) own.is.0;
       }
 
-      pub read_own : IsOwnPattern f style v p → result ≡ shifted p.exponent (Ok v)
+      read_own : IsOwnPattern f style v p → result ≡ shifted p.exponent (Ok v)
           → IsReadShownInWords inline f style text result
       read_own own e =
           (r.patterns, Ok v, is.patterns, there (Ok v) read, inl (p.exponent, shown_of own, e))
@@ -138,9 +171,10 @@ module _ (f : NumberFormatter) (style : CompactStyle) (r : Reader) (is : IsWordR
           shown.own.sign by.strategy shown.strategy (sym text_is ∙ shown.is) in
           record { key = shown.key; own = shown.own; is = same.0 }
 
-      pub read_other : ¬ IsOwnPattern f style v p → IsReadShownInWords inline f style text (Err Syntax)
-      read_other other =
-          (r.patterns, Ok v, is.patterns, there (Ok v) read, inr (λ e shown. other (own_of e shown), refl))
+      pub read_value : IsOwnOr f style p v result → IsReadShownInWords inline f style text result
+      read_value (inl own) = read_own own.0 own.1
+      read_value (inr other) =
+          (r.patterns, Ok v, is.patterns, there (Ok v) read, inr (λ e shown. other.0 (own_of e shown), other.1))
 
       pub read_any : result ≡ shifted p.exponent (Ok v) → IsReadInAnyWords inline f style text result
       read_any e = (

@@ -19,7 +19,7 @@ ordered Notation.Standard has = absurd has
 ordered Notation.Scientific has = absurd has
 ordered Notation.Engineering has = absurd has
 
-from_0 : (b : Bool) (n : ℕ) → pos 0 ≤ℤ (if b then pos 0 else pos n)
+pub from_0 : (b : Bool) (n : ℕ) → pos 0 ≤ℤ (if b then pos 0 else pos n)
 from_0 true n = omega (arith, ints)
 from_0 false n = omega (arith, ints)
 

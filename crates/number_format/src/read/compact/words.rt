@@ -8,11 +8,21 @@ use crate::format::formatter::NumberFormatter;
 use crate::format::outer::OuterTexts;
 use crate::format::short_affixes::ShortAffixes;
 use crate::options::NumberStyle;
+use crate::read::apart::are_same_powers;
 use crate::read::compact::keys::{CompactKey, KEY_COUNT, key_at};
 use crate::read::owned_affixes::OwnedAffixes;
 use crate::read::pattern::{NumberPattern, joined_texts};
 use locale_data::{CompactPattern, CompactPatterns, CompactStyle};
 use std::alloc::{AllocError, Global};
+
+fn are_same_rows(first: CompactPatterns, second: CompactPatterns) -> bool
+    ensures { IsTrue result → patterns_in first ≡ patterns_in second }
+{
+    if first.0.0 != second.0.0 {
+        return false;
+    }
+    first.0.1 == second.0.1
+}
 
 fn is_percent(style: NumberStyle) -> bool
     ensures { result ≡ is_percent style }
@@ -54,11 +64,11 @@ impl NumberFormatter {
         ensures { IsTrue result → IsSameBefore self.now style magnitude }
     {
         let before = magnitude - 1;
-        let own = self.words_at(style, magnitude).0;
-        let other = self.words_at(style, before).0;
-        own.0 == other.0
-            && own.1 == other.1
-            && self.notation.exponent_at(magnitude) == self.notation.exponent_at(before)
+        if !are_same_rows(self.words_at(style, magnitude), self.words_at(style, before)) {
+            return false;
+        }
+        let exponent = self.notation.exponent_at(magnitude);
+        are_same_powers(exponent, self.notation.exponent_at(before))
     }
 
     /// Returns whether the texts of a key are those of one with a smaller index.
