@@ -1,7 +1,8 @@
 #!/usr/bin/env bash
-# Prints the tables of hosts: fd_format of the C library beside NumberFormatter::write in Rattle and beside ICU, the Rust
-# crate beside the C library, SQLite beside its own printf, the Python module beside decimal, Babel and the program, and
-# a column on the workers of Dask beside one program and beside a Dask map of decimal.Decimal:
+# Prints the tables of hosts: fd_format of the C library beside NumberFormatter::write in Rattle and beside ICU,
+# fd_format_range beside ICU, the Rust crate beside the C library, SQLite beside its own printf, the Python module beside
+# decimal, Babel and the program, and a column on the workers of Dask beside one program and beside a Dask map of
+# decimal.Decimal:
 #
 #   bench/hosts.sh [LINES]        by default 5000000
 #
@@ -44,6 +45,18 @@ awk -F '\t' '
         least["fd_format_by_skeleton", name[1], name[2]]
     }
   }' "$room/times"
+echo
+echo '|1234.5 to 5678.5|fd_format_range, ns|unumrf_formatDecimalRange, ns|ratio|'
+echo '|---|---|---|---|'
+awk -F '\t' '
+  $4 == "1234.5..5678.5" {
+    name = $2 ", `" $3 "`"
+    if ($1 == "fd_format_range" && !(name in own)) rows[n++] = name
+    if ($1 == "fd_format_range" && (!(name in own) || $5 < own[name])) own[name] = $5
+    if ($1 != "fd_format_range" && (!(name in icu) || $5 < icu[name])) icu[name] = $5
+  }
+  END { for (row = 0; row < n; row++) printf "|%s|%d|%d|%.2f|\n", rows[row], own[rows[row]], icu[rows[row]],
+          own[rows[row]] / icu[rows[row]] }' "$room/times"
 echo
 FIXED_DECIMAL_LIB=$PWD/c/out/libfixed_decimal.a CARGO_TARGET_DIR=$room/target \
   cargo run --quiet --release --offline --manifest-path bench/hosts/Cargo.toml

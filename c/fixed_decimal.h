@@ -281,6 +281,9 @@ enum fd_precision {
 /* Which zeros are shown by FD_BY_MORE and FD_BY_LESS: those of the rounding that is chosen, or of both. */
 enum fd_zeros { FD_ZEROS_OF_CHOSEN = 0, FD_ZEROS_OF_BOTH = 1 };
 
+/* Which groups of integer digits are separated: those of the locale, or groups of three digits. */
+enum fd_group_sizes { FD_GROUPS_OF_LOCALE = 0, FD_GROUPS_OF_THREE = 1 };
+
 /* Which sign an exponent has: a minus sign below 0; also a plus sign else; none. */
 enum fd_exponent_sign { FD_EXPONENT_AUTO = 0, FD_EXPONENT_ALWAYS = 1, FD_EXPONENT_NEVER = 2 };
 
@@ -293,7 +296,7 @@ typedef struct fd_format_options {
     uint32_t maximum_significant_digits; /* the minimum to 65536, which is no maximum */
     int16_t scale;                       /* times 10^scale, first */
     uint16_t exponent_digits;            /* the least number of digits of an exponent */
-    uint16_t minimum_integer_digits;     /* 1 to 32767 */
+    uint16_t minimum_integer_digits;     /* 0 to 32767; by 0 no integer digit has to be written: .5 */
     uint16_t maximum_integer_digits;     /* the minimum to 32768, which is no maximum */
     uint16_t minimum_fraction_digits;    /* 0 to 32768 */
     uint16_t maximum_fraction_digits;    /* the minimum to 65535, which is no maximum; FD_BY_INCREMENT: at most 32768 */
@@ -317,7 +320,8 @@ typedef struct fd_format_options {
     uint8_t rounding_mode;
     uint8_t trailing_zeros;
     uint8_t has_numbering_system; /* 1; 0: it is that of the locale, and the name is ignored */
-    uint8_t reserved[30];         /* 0 */
+    uint8_t group_sizes;          /* an fd_group_sizes */
+    uint8_t reserved[29];         /* 0 */
 } fd_format_options;
 
 /* Rows of the library's tables, for what is written around the whole number. */

@@ -22,8 +22,8 @@ NUMBERS = ["0", "91827.3645", "-0.22222"]
 # The tags that ICU writes otherwise.
 TAGS = {"en-US-POSIX": "en-US-u-va-posix", "ar@numbers=arab": "ar-u-nu-arab", "root": "und"}
 # The stems that are not supported, as docs/PROGRAMS.md lists them.
-UNSUPPORTED = re.compile(r"unsupported (scale|precision-increment|usage|integer-width|integer-width-trunc"
-                         r"|group-thousands|unit|measure-unit|per-measure-unit|unit-width-formal|unit-width-variant)$")
+UNSUPPORTED = re.compile(r"unsupported (scale|precision-increment|usage|unit|measure-unit|per-measure-unit"
+                         r"|unit-width-formal|unit-width-variant)$")
 
 
 def permutations(path):

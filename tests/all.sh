@@ -1,8 +1,9 @@
 #!/usr/bin/env bash
 # All tests: the gate, and then side by side the built programs as a shell runs them, failing allocations, interrupted
-# writes, the C library, Rust and Dask, setting up, the guide, installs, releases, manual pages, the documents, and the
-# modules. A script that has not ended after half an hour fails, and an interrupt ends all of them. The last lines are
-# `not run: ..` for each thing that is missing here, and `N passed, M failed`; the status is 0 if M is 0.
+# writes, the C library, rows of numbers in locales, Rust and Dask, setting up, the guide, installs, releases, manual
+# pages, the documents, and the modules. A script that has not ended after half an hour fails, and so does one that is
+# killed; an interrupt ends all of them. The last lines are `not run: ..` for each thing that is missing here, and
+# `N passed, M failed`; the status is 0 if M is 0.
 set -u
 unset CDPATH
 cd -- "$(dirname -- "$0")/.." || exit 1
@@ -15,6 +16,7 @@ failed=0
 
 # end_all: ends what is still running. Each script has a session of its own.
 end_all() {
+  local sessions
   sessions=$(jobs -rp | paste -sd ,)
   [ -z "$sessions" ] || pkill -s "$sessions"
   rm -rf "$room"
@@ -22,14 +24,17 @@ end_all() {
 trap end_all EXIT
 trap 'exit 130' HUP INT TERM
 
-# count NAME STATUS LOG: adds up the last line of tests, `N passed, M failed`. Without it, or if the status is another,
-# one more has failed.
+# The shell that leads a session: it runs a command, and then ends what is left of it, also if the command was killed.
+leader='"$@"; status=$?; trap "" TERM; pkill -s $$; exit $status'
+
+# count NAME STATUS LOG: adds up the last line of tests, `N passed, M failed`. Without it, or if the status is another or
+# nothing has passed or failed, one more has failed.
 count() {
   local more=0
   if [[ $(tail -n 1 "$3") =~ ^([0-9]+)\ passed,\ ([0-9]+)\ failed$ ]]; then
     passed=$((passed + BASH_REMATCH[1]))
     failed=$((failed + BASH_REMATCH[2]))
-    [ "$2" = 0 ] || more=$((BASH_REMATCH[2] == 0))
+    [ "$2" = 0 ] && [ "${BASH_REMATCH[1]}" != 0 ] || more=$((BASH_REMATCH[2] == 0))
   else
     more=1
   fi
@@ -40,7 +45,7 @@ count() {
 # One job for each check, as many checks as there are processors: two jobs take a third more processor time.
 export RT_JOBS=${RT_JOBS:-$(nproc)} JOBS=${JOBS:-1}
 : > "$room/log"
-setsid python3 tools/built.py gate >> "$room/log" 2>&1 9<&- &
+setsid bash -c "$leader" - python3 tools/built.py gate >> "$room/log" 2>&1 9<&- &
 gate=$!
 tail -n +1 -f --pid=$gate "$room/log" 9<&- &
 shown=$!
@@ -52,12 +57,12 @@ count 'the gate' $status "$room/log"
 # The scripts take what `rt ci` has just built, and nothing else. Those that take longest begin.
 export BUILT_BY_GATE=1
 scripts=(tests/{c,postgresql,end_to_end,installs,setting_up,guide,releases,dask,hosts,manuals,allocation_failures}.sh
-  tests/interrupted_writes.sh
+  tests/{interrupted_writes.sh,rows.py}
   tools/check_{documents,modules}.py)
 started=()
 for script in "${scripts[@]}"; do
   while [ "$(jobs -rp | wc -l)" -ge "$(nproc)" ]; do wait -n; done
-  setsid timeout 30m "$script" > "$room/${#started[@]}" 2>&1 9<&- &
+  setsid bash -c "$leader" - timeout -k 1m 30m "$script" > "$room/${#started[@]}" 2>&1 9<&- &
   started+=($!)
 done
 for number in "${!scripts[@]}"; do

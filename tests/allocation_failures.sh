@@ -1,9 +1,9 @@
 #!/usr/bin/env bash
 # Makes each allocation of three built programs fail in turn, by a `malloc` that fails once:
 #
-# - `vectors` checks the rows of each file of `tests/allocations`, which make each kind of call that allocates. It has to
-#   print that all rows hold: a call reports that it is out of memory, changes nothing, and succeeds when it is made
-#   again. Where the input itself is not read it prints nothing, and ends with status 1.
+# - `vectors` checks the rows of tests/allocations.txt, which make each kind of call that allocates. It has to print that
+#   all rows hold: a call reports that it is out of memory, changes nothing, and succeeds when it is made again. Where the
+#   input itself is not read it prints nothing, and ends with status 1. (c/tests/memory.c has the calls on locales.)
 # - `fixdec` has to end with status 3, and `memory` with nothing written, or as ever where it asked again, for less.
 # - `fixdec_lines` has to end with status 3, and `memory` with nothing written, or `line N: memory` with the lines
 #   before, or as ever where it asked again, for less; and it allocates no more for a thousand lines of at most 16
@@ -15,7 +15,7 @@ unset CDPATH
 cd -- "$(dirname -- "$0")/.." || exit 1
 . tests/programs.sh
 copy_programs vectors fixdec fixdec_lines
-cp tests/allocations/*.txt "$room"
+cp tests/allocations.txt "$room"
 gcc -shared -fPIC -O2 -Wall -Wextra -Werror tests/failing_malloc.c -o "$room/failing_malloc.so" -ldl
 judge $? 'the failing malloc'
 cd "$room" || exit 1
@@ -39,23 +39,21 @@ fail_each() {
   seq 1 "${all:-0}" | xargs -P "$(nproc)" -I{} bash -c "fail_at ${1@Q} {} ${*:2}"
 }
 
-for rows in values numbers; do
-  # A comment of the same length: the allocations of the input alone.
-  (printf '#' && tr '\n\t' '  ' < $rows.txt) > comment
-  fail_at comment 0 vectors
-  read -r own _ < 0.end
-  fail_each $rows.txt vectors
-  grep -qx '[0-9]* rows hold, 0 fail' 0.out
-  judge $? "vectors, $rows: $(cat 0.out)"
-  for ((at = 1; at <= ${all:-0}; at++)); do
-    read -r count status < "$at.end"
-    if [ "$status" = 1 ] && [ "$at" -le "$own" ]; then
-      [ ! -s "$at.out" ]
-    else
-      [ "$count" -gt "$all" ] && cmp -s "$at.out" 0.out
-    fi
-    judge $? "vectors, $rows, allocation $at of $all: status $status, $(head -c 300 "$at.out")"
-  done
+# A comment of the same length: the allocations of the input alone.
+(printf '#' && tr '\n\t' '  ' < allocations.txt) > comment
+fail_at comment 0 vectors
+read -r own _ < 0.end
+fail_each allocations.txt vectors
+grep -qx '[0-9]* rows hold, 0 fail' 0.out
+judge $? "vectors: $(cat 0.out)"
+for ((at = 1; at <= ${all:-0}; at++)); do
+  read -r count status < "$at.end"
+  if [ "$status" = 1 ] && [ "$at" -le "$own" ]; then
+    [ ! -s "$at.out" ]
+  else
+    [ "$count" -gt "$all" ] && cmp -s "$at.out" 0.out
+  fi
+  judge $? "vectors, allocation $at of $all: status $status, $(head -c 300 "$at.out")"
 done
 
 # no_more LINE TEXT WORD..: a thousand lines are converted to this text, with no allocation more than for one.

@@ -37,10 +37,7 @@ try 'the test of formatters compiles' compile formatter formatter_plain -O1
 try 'formatters that are kept, and any bytes as one' "$room/formatter_plain"
 try 'the same with sanitizers' compile formatter formatter_asan -O1 -fsanitize=address,undefined -fno-sanitize-recover=all
 try 'formatters, sanitizers' "$room/formatter_asan"
-try 'the texts of node compile' compile format_vectors format_vectors -O1 -fsanitize=address,undefined -fno-sanitize-recover=all
-{ awk -F '\t' 'NF == 4' crates/vectors/rows/node_{numbers,units}.tsv; cat c/tests/ranges.tsv; } > "$room/texts"
-"$room/format_vectors" < "$room/texts" > "$room/log" 2>&1
-judge $? "node's texts, by one formatter a locale and options: $(tail -n 1 "$room/log")"
+try 'options and their skeletons' python3 tests/skeleton_options.py 5000
 if command -v valgrind > /dev/null; then
   try 'valgrind' valgrind -q --error-exitcode=9 --leak-check=full --show-leak-kinds=all "$room/test_plain"
   try 'formatters, valgrind' valgrind -q --error-exitcode=9 --leak-check=full --show-leak-kinds=all "$room/formatter_plain"
@@ -188,7 +185,7 @@ if command -v sqlite3 > /dev/null && echo '#include <sqlite3ext.h>' | gcc -E -x 
     "'en', 'K', 'x'|skeleton: no reader" "'en', 'notation', 'compact', 'x'|no reader of such numbers"
   rejects plural "'one: n =', '1'|rules: syntax at 8" "'xx', '1'|unknown locale" "'en:nominal', '1'|rules: syntax at 0" \
     "'en', '1x'|start: syntax"
-  rejects format_number "'tlh', 'percent/w', 'x'|skeleton: syntax at 7" "'en', '.00 group-thousands', '1'|skeleton: unsupported at 4" \
+  rejects format_number "'tlh', 'percent/w', 'x'|skeleton: syntax at 7" "'en', '.00 rounding-mode-half-odd', '1'|skeleton: unsupported at 4" \
     "'tlh', 'percent', 'x'|unknown locale" "'en', 'percent', '1x'|start: syntax" "'en', 'scale/100', '1e32767'|format: overflow" \
     "'en'|a locale, names with values, and a number" "|a locale, names with values, and a number" \
     "'en', 'style', 'percent', 'notation', 5|a locale, names with values, and a number" \

@@ -146,9 +146,10 @@ fails 'BUILT_BY_GATE is set, and no gate has built plural_rules locale_data of t
   python3 "$copy/tools/built.py" libraries locale_data
 cp lib.rt "$copy/crates/plural_rules/src/lib.rt"
 # Over libraries of the gate a program is proved without them.
-echo '// Changed.' >> "$copy/crates/plural/src/main.rt"
-BUILT_BY_GATE='' timeout 900 python3 "$copy/tools/built.py" programs plural > "$room/out" 2> "$room/log" &&
-  [ "$(cat "$room/log")" = 'proves and builds plural, 1 of 1' ] && [ "$("$copy/crates/plural/out/plural" en 1)" = one ]
+echo '// Changed.' >> "$copy/crates/amounts/src/main.rt"
+BUILT_BY_GATE='' timeout 900 python3 "$copy/tools/built.py" programs amounts > "$room/out" 2> "$room/log" &&
+  [ "$(cat "$room/log")" = 'proves and builds amounts, 1 of 1' ] &&
+  [ "$(echo 199950 | "$copy/crates/amounts/out/amounts")" = "1'999.50" ]
 judge $? "a program that changes is proved alone: $(tail -n 1 "$room/log")"
 # The gate has built a program, and its source no longer compiles.
 cp "$copy/crates/fixdec/src/main.rt" main.rt

@@ -168,7 +168,7 @@ rejects '22023|call 0: syntax' "fixdec('1', 'concat:x')"
 rejects '22023|call 1: limit' "fixdec('1', 'trim-end', 'concat:' || repeat('1', 32769))"
 rejects '22023|skeleton: syntax at 7' "fixdec('x', 'read:de:percent/w')" "format_number('de', 'percent/w', 1)" \
   "read_number('tlh', 'percent/w', 'x')"
-rejects '22023|skeleton: unsupported at 4' "format_number('en', '.00 group-thousands', 1)"
+rejects '22023|skeleton: unsupported at 4' "format_number('en', '.00 rounding-mode-half-odd', 1)"
 rejects '22023|skeleton: syntax at 17' "format_number('en', 'numbering-system/none', 1)"
 rejects '22023|skeleton: no reader' "read_number('en', 'K', '1')" "fixdec('1', 'read:de:K')"
 rejects '22023|rules: syntax at 8' "plural('one: n =', 1)"

@@ -3,38 +3,23 @@
 
 Of N options (100,000) each has a skeleton, except where no stem says it: signs of accounting that are never shown,
 permille in compact notation, cash with other digits than its own, and an unknown numbering system. The number has the
-same text, or the same error, by the options and by their skeleton. Needs `bash c/build.sh`; the seed is fixed.
+same text, or the same error, by the options and by their skeleton. The seed is fixed.
 """
 import ctypes
-import os
 import random
 import sys
 
-OK, DIGIT_OPTIONS, NO_SKELETON, DEFAULT = 0, 20, 21, 65535
+sys.dont_write_bytecode = True
+from c_library import TYPES, fd
+
+OK, UNKNOWN_OPTION, DIGIT_OPTIONS, NO_SKELETON, DEFAULT = 0, 11, 20, 21, 65535
 CURRENCY, PERMILLE, COMPACT, NEVER, ACCOUNTING, CASH, STANDARD = 3, 2, (3, 4), 1, 1, 1, 0
 # The fraction digits and the increment of `precision-currency-cash` in ICU, and those of ECMA-402 that are others.
 CASH_DIGITS = {b"USD": (2, 1), b"EUR": (2, 1), b"CHF": (2, 5), b"JPY": (0, 1), b"DKK": (1, 5), b"KWD": (3, 1)}
 ECMA_CASH = {b"DKK": (2, 50)}
 SYSTEMS = [b"latn", b"arab", b"arabext", b"beng", b"deva", b"thai", b"hanidec", b"fullwide"]
 NUMBERS = ["0", "-0.5", "1234567.891", "-999.995", "0.000123455", "25000", "-12.5", "1e21"]
-
-
-class Result(ctypes.Structure):
-    _fields_ = [("status", ctypes.c_uint32), ("at", ctypes.c_size_t), ("count", ctypes.c_size_t)]
-
-
-class Options(ctypes.Structure):
-    _fields_ = [("style", ctypes.c_uint8), ("currency", ctypes.c_uint8 * 3), ("system", ctypes.c_uint8 * 16)] + [
-        (name, ctypes.c_uint8) for name in ("display", "currency_sign", "usage", "notation", "sign", "grouping", "mode",
-                                            "priority", "zeros")] + [("scale", ctypes.c_int16)] + [
-        (name, ctypes.c_uint16) for name in ("integer", "min_fraction", "max_fraction", "min_significant",
-                                             "max_significant", "increment")]
-
-
-os.chdir(os.path.join(os.path.dirname(os.path.abspath(__file__)), ".."))
-library = ctypes.CDLL("c/out/libfixed_decimal.so")
-for function in (library.fd_skeleton, library.fd_format_number, library.fd_format_by_skeleton):
-    function.restype = Result
+Options = TYPES["fd_number_options"]
 room = ctypes.create_string_buffer(1 << 17)
 
 
@@ -44,56 +29,66 @@ def counts(rng, low, high, most):
     return rng.choice([DEFAULT, least]), rng.choice([DEFAULT, greatest])
 
 
+def set_counts(options, name, numbers):
+    for end, number in zip(("minimum", "maximum"), numbers):
+        setattr(options, f"{end}_{name}_digits", number)
+
+
 def random_options(rng):
     name = rng.choice(SYSTEMS * 8 + [b"roman", b"latx", b"la/n"]) if rng.random() < 0.3 else b""
     style, notation = rng.randrange(4), rng.choice([0, 0, 0, 1, 2, 3, 4])
     options = Options(style=style, currency=(ctypes.c_uint8 * 3)(*rng.choice(list(CASH_DIGITS))), notation=notation,
-                      system=(ctypes.c_uint8 * 16)(*(name.ljust(16) if name else bytes(16))),
-                      display=rng.randrange(4), currency_sign=rng.randrange(2), usage=rng.randrange(2),
-                      sign=rng.randrange(5), grouping=rng.randrange(4), mode=rng.randrange(9), zeros=rng.randrange(2),
+                      numbering_system=(ctypes.c_uint8 * 16)(*(name.ljust(16) if name else bytes(16))),
+                      currency_display=rng.randrange(4), currency_sign=rng.randrange(2),
+                      currency_usage=rng.randrange(2), sign_display=rng.randrange(5), grouping=rng.randrange(4),
+                      rounding_mode=rng.randrange(9), trailing_zeros=rng.randrange(2),
                       scale=rng.choice([0, 0, 2, -2, rng.randrange(-300, 300), rng.randrange(-32768, 32768)]),
-                      integer=rng.choice([DEFAULT, DEFAULT, 1, rng.randrange(1, 22)]), increment=DEFAULT)
-    options.min_fraction, options.max_fraction = counts(rng, 0, 6, 100)
-    options.min_significant, options.max_significant = DEFAULT, DEFAULT
+                      minimum_integer_digits=rng.choice([DEFAULT, DEFAULT, 1, rng.randrange(1, 22)]),
+                      rounding_increment=DEFAULT)
+    set_counts(options, "fraction", counts(rng, 0, 6, 100))
+    set_counts(options, "significant", (DEFAULT, DEFAULT))
     if rng.random() < 0.5:
-        options.priority = rng.randrange(3)
-        options.min_significant, options.max_significant = counts(rng, 1, 6, 21)
+        options.rounding_priority = rng.randrange(3)
+        set_counts(options, "significant", counts(rng, 1, 6, 21))
     elif rng.random() < 0.3:
-        options.increment = rng.choice([1, 2, 5, 10, 20, 25, 50, 100, 200, 250, 500, 1000, 2000, 2500, 5000])
-        options.min_fraction = options.max_fraction = rng.choice([0, 1, 2, 3, 4, 5, 100])
+        options.rounding_increment = rng.choice([1, 2, 5, 10, 20, 25, 50, 100, 200, 250, 500, 1000, 2000, 2500, 5000])
+        set_counts(options, "fraction", [rng.choice([0, 1, 2, 3, 4, 5, 100])] * 2)
     if rng.random() < 0.4:
-        options.min_fraction = options.max_fraction = options.min_significant = options.max_significant = DEFAULT
-        options.priority, options.increment = 0, DEFAULT
+        set_counts(options, "fraction", (DEFAULT, DEFAULT))
+        set_counts(options, "significant", (DEFAULT, DEFAULT))
+        options.rounding_priority, options.rounding_increment = 0, DEFAULT
     return options
 
 
 def has_own_cash(options):
     """Whether the digits are those of `precision-currency-cash`, or None where these rules do not say it."""
     own = CASH_DIGITS[bytes(options.currency)]
-    if options.priority or options.min_significant != DEFAULT or options.max_significant != DEFAULT:
+    significant = {options.minimum_significant_digits, options.maximum_significant_digits}
+    if options.rounding_priority or significant != {DEFAULT}:
         return False
     if options.notation != STANDARD:
         return None
     digits, increment = ECMA_CASH.get(bytes(options.currency), own)
-    least, greatest = options.min_fraction, options.max_fraction
+    least, greatest = options.minimum_fraction_digits, options.maximum_fraction_digits
     if least == DEFAULT:
         least = min(digits, greatest)
     if greatest == DEFAULT:
         greatest = max(digits, least)
-    increment = increment if options.increment == DEFAULT else options.increment
+    if options.rounding_increment != DEFAULT:
+        increment = options.rounding_increment
     return (least, greatest, increment) == (own[0], *own)
 
 
 def has_skeleton(options):
     """Whether the options have one, or None if these rules do not say it."""
-    name = bytes(options.system).rstrip()
+    name = bytes(options.numbering_system).rstrip()
     if name.strip(b"\0") and name not in SYSTEMS or options.style == PERMILLE and options.notation in COMPACT:
         return False
     if options.style != CURRENCY:
         return True
-    if options.currency_sign == ACCOUNTING and options.sign == NEVER:
+    if options.currency_sign == ACCOUNTING and options.sign_display == NEVER:
         return False
-    return has_own_cash(options) if options.usage == CASH else True
+    return has_own_cash(options) if options.currency_usage == CASH else True
 
 
 def text_of(answer):
@@ -102,18 +97,19 @@ def text_of(answer):
 
 def is_right(options, number):
     """Whether the skeleton of options says them; None if the digits are those of no format."""
-    answer = library.fd_skeleton(ctypes.byref(options), room, ctypes.c_size_t(len(room)))
+    answer = fd.fd_skeleton(options, room, len(room))
     if answer.status == DIGIT_OPTIONS:
         return None
+    if answer.status == UNKNOWN_OPTION:
+        return b"/" in bytes(options.numbering_system)
     if answer.status == NO_SKELETON:
         return not has_skeleton(options)
     skeleton = text_of(answer)
     if answer.status != OK or has_skeleton(options) is False:
         return False
-    given = [number, ctypes.c_size_t(len(number)), b"de", ctypes.c_size_t(2)]
-    end = [room, ctypes.c_size_t(len(room))]
-    by_options = text_of(library.fd_format_number(*given, ctypes.byref(options), *end))
-    return by_options == text_of(library.fd_format_by_skeleton(*given, skeleton, ctypes.c_size_t(len(skeleton)), *end))
+    given, end = [number, len(number), b"de", 2], [room, len(room)]
+    by_options = text_of(fd.fd_format_number(*given, options, *end))
+    return by_options == text_of(fd.fd_format_by_skeleton(*given, skeleton, len(skeleton), *end))
 
 
 def main(count):

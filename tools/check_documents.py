@@ -5,6 +5,7 @@ The commands of README and PROGRAMS are run by the programs that are built of th
 With BUILT_BY_GATE set all of them have to be built.
 """
 import functools
+import glob
 import os
 import re
 import subprocess
@@ -24,7 +25,9 @@ HIDDEN = {"from_bcd_digits", "from_short_text", "scan_from", "lowest_of"}
 OUTSIDE = re.compile(r"\b(?:document|paper|issue|session|request|promise|definition) \d|\b[DTRW]\d{1,2}\b"
                      r"|/(?:work|tmp|root|home)/")
 
-ROWS = "crates/vectors/rows/"
+# The inputs of programs that check rows, and the files that each is made of.
+ROWS = {"crates/vectors/stdin": ["crates/vectors/rows/*"],
+        "crates/cli_vectors/stdin": ["crates/cli_vectors/rows/*", "tests/rows/*skeletons.tsv"]}
 
 failures, passes = [], 0
 
@@ -188,7 +191,7 @@ def check_code():
     that a script makes is what the script writes: the tables of locales, the pictures, the reference."""
     for path in FILES:
         if path != "LICENSE" and not path.startswith("tools/"):
-            rows = path.endswith("vectors/stdin") or path.startswith(ROWS)
+            rows = path in ROWS or "/rows/" in path
             found = [line.strip()[:80] for line in read(path).splitlines()
                      if OUTSIDE.search(line) and (line.startswith("#") or "\t" not in line or not rows)]
             check(not found, f"{path}: this cites what is not in the repository: {found}")
@@ -209,9 +212,10 @@ def check_code():
 
 
 def check_rows():
-    """The input of `vectors` is what is in its files of rows."""
-    rows = "".join(read(path) for path in sorted(FILES) if path.startswith(ROWS))
-    check(read("crates/vectors/stdin") == rows, f"crates/vectors/stdin: run `cat {ROWS}* > crates/vectors/stdin`")
+    """The input of each program that checks rows is what is in its files of rows."""
+    for path, sources in ROWS.items():
+        rows = "".join(read(it) for source in sources for it in sorted(glob.glob(source)))
+        check(read(path) == rows, f"{path}: run `cat {' '.join(sources)} > {path}`")
 
 
 def lines_of(paths):

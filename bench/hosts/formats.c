@@ -1,8 +1,10 @@
-/* Times 1234.5 as a locale writes it by a skeleton: a row `call`, locale, skeleton, number, nanoseconds of a call.
+/* Times 1234.5, and the range from it to 5678.5, as a locale writes them by a skeleton: a row `call`, locale, skeleton,
+ * number or range, nanoseconds of a call.
  *
  * `fd_format` has a formatter that is kept, `fd_format_by_skeleton` makes one each time. `unumf_formatDecimal` of ICU has
- * a formatter and a result that are kept, and unumf_resultToString copies its text in UTF-16. Each figure is the least
- * processor time of nine batches. With the words CALL LOCALE SKELETON COUNT it makes that many calls, and times none. */
+ * a formatter and a result that are kept, and unumf_resultToString copies its text in UTF-16. The ranges are those of
+ * fd_format_range and unumrf_formatDecimalRange, by formatters that are kept. Each figure is the least processor time of
+ * nine batches. With the words CALL LOCALE SKELETON COUNT it makes that many calls, and times none. */
 #include "../../c/fixed_decimal.h"
 #include <stdio.h>
 #include <stdlib.h>
@@ -10,13 +12,14 @@
 #include <time.h>
 #include <unicode/uloc.h>
 #include <unicode/unumberformatter.h>
+#include <unicode/unumberrangeformatter.h>
 #include <unicode/ustring.h>
 
 enum { CALLS = 20000, BATCHES = 9, ROOM = 128 };
 #define BYTES(s) (const uint8_t *)(s), strlen(s)
 static const char *const locales[] = {"en", "de", "hi", "ar-EG", "ja"};
 static const char *const skeletons[] = {"currency/EUR .00", "percent", "K"};
-static const char number[] = "1234.5";
+static const char number[] = "1234.5", range_end[] = "5678.5";
 static volatile size_t total;
 
 typedef struct subject {
@@ -24,6 +27,8 @@ typedef struct subject {
     fd_formatter kept;
     UNumberFormatter *icu;
     UFormattedNumber *result;
+    UNumberRangeFormatter *icu_range;
+    UFormattedNumberRange *range;
 } subject;
 
 static void format(const subject *it) {
@@ -43,10 +48,31 @@ static void format_by_icu(const subject *it) {
     total += (size_t)unumf_resultToString(it->result, text, ROOM, &status);
 }
 
+static void format_range(const subject *it) {
+    uint8_t text[ROOM];
+    total += fd_format_range(&it->kept, BYTES(number), BYTES(range_end), text, ROOM).count;
+}
+
+static void format_range_by_icu(const subject *it) {
+    int32_t count = 0;
+    UErrorCode status = U_ZERO_ERROR;
+    unumrf_formatDecimalRange(it->icu_range, number, (int32_t)strlen(number), range_end, (int32_t)strlen(range_end),
+                              it->range, &status);
+    ufmtval_getString(unumrf_resultAsValue(it->range, &status), &count, &status);
+    total += (size_t)count;
+}
+
+#define RANGE "1234.5..5678.5"
 static const struct {
-    const char *name;
+    const char *name, *what;
     void (*make)(const subject *);
-} calls[] = {{"fd_format", format}, {"fd_format_by_skeleton", format_by_skeleton}, {"unumf_formatDecimal", format_by_icu}};
+} calls[] = {
+    {"fd_format", number, format},
+    {"fd_format_by_skeleton", number, format_by_skeleton},
+    {"unumf_formatDecimal", number, format_by_icu},
+    {"fd_format_range", RANGE, format_range},
+    {"unumrf_formatDecimalRange", RANGE, format_range_by_icu},
+};
 
 static double processor_time(void) {
     struct timespec time;
@@ -76,6 +102,9 @@ static subject open_both(const char *locale, const char *skeleton) {
     u_uastrcpy(words, skeleton);
     it.icu = unumf_openForSkeletonAndLocale(words, -1, id, &status);
     it.result = unumf_openResult(&status);
+    it.icu_range = unumrf_openForSkeletonWithCollapseAndIdentityFallback(
+        words, -1, UNUM_RANGE_COLLAPSE_AUTO, UNUM_IDENTITY_FALLBACK_APPROXIMATELY, id, NULL, &status);
+    it.range = unumrf_openResult(&status);
     unumf_formatDecimal(it.icu, number, (int32_t)strlen(number), it.result, &status);
     unumf_resultToString(it.result, text, ROOM, &status);
     u_strToUTF8(bytes, ROOM, NULL, text, -1, &status);
@@ -101,10 +130,12 @@ int main(int count, char **words) {
         for (size_t s = 0; s < sizeof skeletons / sizeof *skeletons; s++) {
             subject it = open_both(locales[l], skeletons[s]);
             for (size_t call = 0; call < sizeof calls / sizeof *calls; call++)
-                printf("%s\t%s\t%s\t%s\t%.0f\n", calls[call].name, it.locale, it.skeleton, number,
+                printf("%s\t%s\t%s\t%s\t%.0f\n", calls[call].name, it.locale, it.skeleton, calls[call].what,
                        least(calls[call].make, &it));
             unumf_close(it.icu);
             unumf_closeResult(it.result);
+            unumrf_close(it.icu_range);
+            unumrf_closeResult(it.range);
         }
     }
     return 0;

@@ -13,7 +13,8 @@ static const char *const skeletons[] = {
     "engineering @@@", "currency/CHF precision-currency-cash", ".00/@@@*", ".00/@@@r", "integer-width/##00",
     "precision-increment/0.25", "permille", "compact-long currency/USD", "()-", "currency/XYZ", "numbering-system/arab",
     "precision-unlimited", "unit/kilometer-per-hour unit-width-full-name", "unit/furlong", "currency/EUR unit-width-full-name",
-    "decimal-always .", "integer-width/+00000000000000000000000000000000000", "percent/w", "group-thousands"};
+    "decimal-always .", "group-thousands", "integer-width/*", "currency/CHF integer-width-trunc",
+    "integer-width/+00000000000000000000000000000000000", "percent/w", "rounding-mode-half-odd"};
 
 /* Each skeleton in each locale: as fd_format_by_skeleton and fd_read_by_skeleton. */
 static void test_skeletons(void) {
@@ -172,7 +173,7 @@ static void test_parts(void) {
     CHECK(r.status == FD_SYNTAX && r.count == 0 && r.parts == 0);
     r = fd_format_parts(&f, B("1e32767"), buffer, 8, parts, 4);
     CHECK(r.status == FD_OVERFLOW && r.at == 0 && r.count == 0 && r.parts == 0);
-    f.options.reserved[29] = 1;
+    f.options.reserved[28] = 1;
     r = fd_format_parts(&f, B("x"), buffer, 8, parts, 4);
     CHECK(r.status == FD_FORMATTER && r.count == 0 && r.parts == 0);
 }
@@ -318,6 +319,13 @@ static void test_resolved(void) {
     CHECK(r.options.style == FD_UNIT && r.options.unit_display == FD_UNIT_NARROW);
     CHECK(r.options.unit == fd_unit(B("gram")).unit && r.options.per_unit == fd_unit(B("second")).unit);
     CHECK(r.options.decimal_separator == FD_SEPARATOR_ALWAYS && r.options.currency[0] == 0);
+    CHECK(r.options.group_sizes == FD_GROUPS_OF_LOCALE);
+    f = by_skeleton("hi", "group-thousands integer-width/##");
+    r = fd_resolved(&f);
+    CHECK(r.options.grouping == FD_GROUP_ALWAYS && r.options.group_sizes == FD_GROUPS_OF_THREE);
+    CHECK(r.options.minimum_integer_digits == 0 && r.options.maximum_integer_digits == 2);
+    f.options.group_sizes = 2;
+    CHECK(fd_resolved(&f).status == FD_FORMATTER);
 }
 
 static void test_status_texts(void) {

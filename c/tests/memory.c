@@ -71,6 +71,30 @@ static uint32_t convert_read(void) {
     const fd_forms forms = {.read = amounts};
     return fd_convert(BYTES(digits), &forms, calls, 1, BYTES("decurrency/EUR"), buffer, ROOM).status;
 }
+static uint32_t convert_lenient(void) {
+    const fd_forms forms = {.read = {.count = 2, .option = FD_LENIENT}};
+    return fd_convert(BYTES(digits), &forms, calls, 1, BYTES("de"), buffer, ROOM).status;
+}
+/* A number of 16 digits by a skeleton: an increment of 25 at the 17th digit needs memory, and nothing else does. */
+static uint32_t by(const char *skeleton) {
+    const char *number = "1.999999999999987";
+    return fd_format_by_skeleton(BYTES(number), BYTES("en"), BYTES(skeleton), buffer, ROOM).status;
+}
+static uint32_t by_25(void) {
+    return by("precision-increment/0.0000000000000025 rounding-mode-half-up");
+}
+static uint32_t by_25_scientific(void) {
+    return by("scientific precision-increment/0.0000000000000025");
+}
+static uint32_t by_25_before(void) {
+    return by("precision-increment/0.000000000000025");
+}
+static uint32_t by_5(void) {
+    return by("precision-increment/0.0000000000000005");
+}
+static uint32_t by_percent(void) {
+    return by("%x100 .0");
+}
 static uint32_t read_by_skeleton(void) {
     return fd_read_by_skeleton(BYTES(digits), BYTES("de"), BYTES("currency/EUR"), 1, buffer, ROOM).status;
 }
@@ -204,6 +228,9 @@ int main(void) {
                 {"fd_category", category, 1}, {"fd_category_of", category_by_number, 1}, {"fd_lines", column, 1},
                 {"fd_format_by_skeleton", format_by_skeleton, 1}, {"fd_convert, skeleton", convert_number, 1},
                 {"fd_read_by_skeleton", read_by_skeleton, 1}, {"fd_convert, read", convert_read, 1},
+                {"fd_convert, lenient", convert_lenient, 1}, {"17 digits by 25", by_25, 1},
+                {"17 digits by 25, E", by_25_scientific, 1}, {"16 digits by 25", by_25_before, 0},
+                {"17 digits by 5", by_5, 0}, {"16 digits in percent", by_percent, 0},
                 {"fd_format_number", format_number, 1}, {"fd_read_number", read_number, 1},
                 {"fd_skeleton", skeleton, 1}, {"fd_format", format_kept, 1}, {"fd_format_parts", parts_kept, 1},
                 {"fd_format_range", range_kept, 1}, {"fd_format_range, long end", range_to_long, 1},

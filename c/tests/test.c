@@ -628,7 +628,7 @@ static void test_skeleton_errors(void) {
         {"1", "en", ".00 currency/E", FD_SKELETON_SYNTAX, 13},
         {"1", "en", "\xff", FD_SKELETON_SYNTAX, 0},
         {"1", "en", "percent/w .00 \xe2\x82", FD_SKELETON_SYNTAX, 14},
-        {"x", "xx", ".00 group-thousands", FD_SKELETON_UNSUPPORTED, 4},
+        {"x", "xx", ".00 rounding-mode-half-odd", FD_SKELETON_UNSUPPORTED, 4},
         {"x", "xx", "percent", FD_UNKNOWN_LOCALE, 0},
         {"x", "\xff", "", FD_UNKNOWN_LOCALE, 0},
         {"x", "en", "percent", FD_SYNTAX, 0},

@@ -26,6 +26,7 @@ _WORDS = {
     "trailing_zero_display": ("auto", "strip-if-integer"),
     "exponent_sign": ("auto", "always", "never"),
     "decimal_separator": ("auto", "always"),
+    "group_sizes": ("locale", "thousands"),
 }
 # Words that number skeletons have, and ECMA-402 has not.
 _OF_SKELETONS = ("permille", "hidden")
@@ -144,7 +145,7 @@ def resolved_options(locale, options):
     """Returns a dictionary of the options of a locale that an `fd_format_options` has, from its bytes."""
     (least, most, scale, exponent_digits, integer, most_integer, fraction, most_fraction, increment, style, currency,
      system, display, sign, usage, unit, per_unit, unit_display, notation, exponent_sign, sign_display, grouping,
-     separator, precision, _, mode, zeros) = struct.unpack("=IIh6HB3s16s15B31x", options)
+     separator, precision, _, mode, zeros, _, group_sizes) = struct.unpack("=IIh6HB3s16s17B29x", options)
 
     found = {"locale": locale, "numbering_system": system.decode().rstrip(" "), **_words(style=style)}
     if found["style"] == "currency":
@@ -156,6 +157,8 @@ def resolved_options(locale, options):
         found["scale"] = scale
     if separator:
         found |= _words(decimal_separator=separator)
+    if group_sizes:
+        found |= _words(group_sizes=group_sizes)
     found["minimum_integer_digits"] = integer
     if most_integer < 32768:
         found["maximum_integer_digits"] = most_integer

@@ -275,7 +275,7 @@ def test_class():
     raises(TypeError, lambda: Decimal("1").compare(1), text="compare() takes a Decimal, not int: write Decimal(x)")
     raises(DecimalError, lambda: Decimal("1").format("tlh", skeleton="percent"), "unknown locale")
     raises(DecimalError, lambda: Decimal("1").format("tlh", skeleton="percent/w"), "skeleton syntax")
-    raises(DecimalError, lambda: Decimal("1").format("en", skeleton="group-thousands"), "skeleton unsupported")
+    raises(DecimalError, lambda: Decimal("1").format("en", skeleton="rounding-mode-half-odd"), "skeleton unsupported")
     raises(TypeError, lambda: Decimal("1").format("en", "auto", "percent"))
     raises(DecimalError, lambda: Decimal("1").format("tlh"), "unknown locale")
     raises(DecimalError, lambda: Decimal.read("1", "tlh"), "unknown locale")
@@ -338,8 +338,8 @@ def test_messages():
         (lambda: one.format("tlh", style="percent"), "unknown locale: 'tlh'"),
         (lambda: one.format("de", skeleton="percent/w"), "skeleton syntax: 'percent/w'"),
         (lambda: Decimal.read("1x", "de"), "syntax: '1x'"), (lambda: Decimal.read("1", "tlh"), "unknown locale: 'tlh'"),
-        (lambda: Decimal.read("1", "de", skeleton="group-thousands"),
-         "skeleton unsupported: 'group-thousands'"),
+        (lambda: Decimal.read("1", "de", skeleton="rounding-mode-half-odd"),
+         "skeleton unsupported: 'rounding-mode-half-odd'"),
         (lambda: Decimal.read("1", "de", skeleton="K"), "unreadable format"),
         (lambda: one.format("de", numbering_system="roman"), "unknown numbering system"),
         (lambda: one.format("de", **digits),
@@ -428,10 +428,12 @@ def test_examples():
 
 def test_options():
     """The rows of `Intl.NumberFormat` in the tests of numbers: options, a number and its text in a locale."""
-    rows = os.path.join(os.path.dirname(os.path.abspath(__file__)), "../../crates/vectors/stdin")
-    with open(rows, encoding="utf-8") as file:
-        rows = [row for line in file if len(row := line.rstrip("\n").split("\t")) == 4
-                and ("=" in row[1] or not row[1]) and not re.search(r"[*]|\b(?:check|scale|integer|fraction)=", line)]
+    rows = []
+    for name in ("numbers", "node_numbers", "node_systems", "node_units"):
+        home = os.path.dirname(os.path.abspath(__file__))
+        with open(os.path.join(home, "../../tests/rows", f"{name}.tsv"), encoding="utf-8") as file:
+            rows += [row for line in file if len(row := line.rstrip("\n").split("\t")) == 4
+                     and not re.search(r"[*]|\b(?:check|scale|integer|fraction)=", line)]
     check(len(rows) > 7000, len(rows))
     plain = 0
     for locale, words, number, text in rows:
@@ -569,6 +571,14 @@ def test_number_format():
     more = NumberFormat("en", skeleton="permille scale/100 sign-never integer-width/##0").resolved_options()
     found = [more.get(name) for name in ("style", "scale", "sign_display", "maximum_integer_digits")]
     check(found == ["permille", 2, "never", 3], "more options", more)
+    thousands = NumberFormat("hi", skeleton="group-thousands integer-width/##0")
+    check(thousands.resolved_options().get("group_sizes") == "thousands", "groups of three")
+    hidden = NumberFormat("en", skeleton="currency/USD integer-width/*")
+    parts = [(part["type"], part["value"]) for part in hidden.format_to_parts("-0.5")]
+    want = [("minusSign", "-"), ("currency", "$"), ("decimal", "."), ("fraction", "50")]
+    check(hidden.format("-0.5") == "-$.50" and parts == want, "no integer digit", parts)
+    check(hidden.format_range("0.25", "1") == "$.25 \u2013 $1.00", "a range", hidden.format_range("0.25", "1"))
+    raises(DecimalError, lambda: hidden.read("$.50"), "unreadable format")
     more = NumberFormat("en", skeleton="@@+").resolved_options()
     check(more.get("maximum_significant_digits", 0) is None, "no maximum", more)
 
@@ -587,8 +597,8 @@ def test_errors_of_number_formats():
         (lambda: NumberFormat("\udcff"), "unknown locale: '\\udcff'"),
         (lambda: NumberFormat("tlh", skeleton="percent/w"), "skeleton syntax: 'percent/w'"),
         (lambda: NumberFormat("de", skeleton="\ud800"), "skeleton syntax: '\\ud800'"),
-        (lambda: NumberFormat("de", skeleton="group-thousands"),
-         "skeleton unsupported: 'group-thousands'"),
+        (lambda: NumberFormat("de", skeleton="rounding-mode-half-odd"),
+         "skeleton unsupported: 'rounding-mode-half-odd'"),
         (lambda: NumberFormat("de", numbering_system="roman"), "unknown numbering system"),
         (lambda: NumberFormat("de", minimum_integer_digits=22), "digit options: integer digits are from 1 to 21"),
     ):
@@ -666,7 +676,7 @@ def test_ranges():
             want += [{"type": name, "value": next(words), "source": source} for name in words]
         found = NumberFormat(locale, **options).format_range_to_parts(start, end)
         check(found == want, locale, options, start, end, found, want)
-    rows = os.path.join(os.path.dirname(os.path.abspath(__file__)), "../../c/tests/ranges.tsv")
+    rows = os.path.join(os.path.dirname(os.path.abspath(__file__)), "../../tests/rows/node_ranges.tsv")
     with open(rows, encoding="utf-8") as file:
         rows = [line.rstrip("\n").split("\t") for line in file if not line.startswith("# ")]
     check(len(rows) > 1000, len(rows))

@@ -240,12 +240,14 @@ fn skeletons() {
         ("is", "scientific", "1500", "1,5E3"),
         ("uk", "percent", "5300000", "5\u{a0}300\u{a0}000%"),
         ("en", "%x100 sign-never numbering-system/arabext", "-3.5", "۳۵۰٪"),
+        ("hi", "precision-increment/0.25 group-thousands permille sign-negative", "1000", "1,000.00‰"),
+        ("cs", "integer-width-trunc", "-2.5", "-,5"),
     ] {
         assert_eq!(decimal(text).format_number(locale, skeleton).as_deref(), Ok(written), "{locale} {skeleton}");
     }
     for (text, locale, skeleton, error) in [
         ("1", "tlh", "percent/w", NumberFormatError::SkeletonSyntax(7)),
-        ("1", "tlh", ".00 group-thousands", NumberFormatError::SkeletonUnsupported(4)),
+        ("1", "tlh", ".00 rounding-mode-half-odd", NumberFormatError::SkeletonUnsupported(4)),
         ("1e32767", "tlh", "scale/100", NumberFormatError::UnknownLocale),
         ("1e32767", "en", "scale/100", NumberFormatError::Limit),
     ] {

@@ -1,7 +1,7 @@
 #!/usr/bin/env python3
 """Chooses rows of `node.js vectors`:
 
-    node tools/locales/node.js vectors | python3 tools/locales/choose_rows.py > crates/vectors/rows/node_locales.tsv
+    node tools/locales/node.js vectors | python3 tools/locales/choose_rows.py > tests/rows/node_locales.tsv
 
 Of texts it prints rows of one locale for each pair of a numbering system and symbols in symbols.tsv: those of the
 strategy `auto`, and of each other strategy those with another text. Of plural categories it prints for each language

@@ -1,7 +1,7 @@
 #!/usr/bin/env python3
-"""Chooses rows of `vectors` from texts of `Intl.NumberFormat` in locales other than `en`:
+"""Chooses rows of tests/rows from texts of `Intl.NumberFormat` in locales other than `en`:
 
-    python3 tools/locales/choose_vectors.py TEXTS [LIMIT] > crates/vectors/rows/node_systems.tsv
+    python3 tools/locales/choose_vectors.py TEXTS [LIMIT] > tests/rows/node_systems.tsv
 
 TEXTS has rows of a locale, options as JSON by the names of ECMA-402, a number and its text. Rows are those of the style
 `decimal` in the notation `standard`. For each numbering system with its symbols, as symbols.tsv has them, there are

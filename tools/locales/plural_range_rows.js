@@ -1,5 +1,5 @@
 #!/usr/bin/env node
-// Prints rows of crates/cli_vectors/stdin for the plural categories of ranges: `node tools/locales/plural_range_rows.js`.
+// Prints rows of crates/cli_vectors/rows for the plural categories of ranges: `node tools/locales/plural_range_rows.js`.
 //
 // The categories are those of node's Intl.PluralRules. For each language of plural_ranges.tsv there is a row for each
 // two categories that the file lists, and a row for two that it does not list; then there are rows of tags of other

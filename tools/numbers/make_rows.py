@@ -1,10 +1,9 @@
 #!/usr/bin/env python3
-"""Writes rows of `vectors` of texts and errors of `Intl.NumberFormat`:
+"""Writes rows of tests/rows of texts and errors of `Intl.NumberFormat`:
 
-    python3 tools/numbers/make_rows.py TEXTS ERRORS CURRENCIES > crates/vectors/rows/node_numbers.tsv
-    python3 tools/numbers/make_rows.py --units UNITS NAMES > crates/vectors/rows/node_units.tsv
-    python3 tools/numbers/make_rows.py --parts PARTS > crates/vectors/rows/node_parts.tsv
-    python3 tools/numbers/make_rows.py TEXTS
+    python3 tools/numbers/make_rows.py TEXTS ERRORS CURRENCIES > tests/rows/node_numbers.tsv
+    python3 tools/numbers/make_rows.py --units UNITS NAMES > tests/rows/node_units.tsv
+    python3 tools/numbers/make_rows.py --parts PARTS > tests/rows/node_parts.tsv
 
 TEXTS has rows of a locale, options as JSON by the names of ECMA-402, a number and its text; ERRORS has a locale, options
 and the class of the error; both are made with node. CURRENCIES has rows of a code and its number of fraction digits.
@@ -15,8 +14,7 @@ being any. UNITS and NAMES have texts of units and of amounts with names of curr
 are the first with a locale and a width, with a unit and its width, after `per` too, with a currency, or with a value of
 another option in a style and a notation. PARTS has parts instead of texts, as JSON: a type, a
 text and, in rows with a second number, the source in the range. Of these rows are written that are the first with types
-and sources in an order, in a style. With TEXTS alone its rows are written, all; it may
-also be PARTS.
+and sources in an order, in a style.
 """
 import collections
 import json
@@ -43,13 +41,14 @@ def words(options, names):
     return " ".join(f"{name}={shown.get(value, value) if name == 'useGrouping' else value}" for name, value in values.items())
 
 
-def defaults(options, currencies):
-    """The fraction digits of the style, as node has them in each notation."""
+def style_of(options, currencies):
+    """A style that has the fraction digits of the style by default."""
+    codes = {"2": "EUR", "3": "KWD", "4": "CLF"}
     style = options.get("style", "decimal")
-    if style == "currency":
-        count = currencies.get(options["currency"], 2)
-        return f"defaults={count},{count}"
-    return "defaults=0,0" if style == "percent" else ""
+    count = currencies.get(options["currency"], "2") if style == "currency" else "0"
+    if style == "decimal":
+        return ""
+    return f"style=currency currency={codes[count]}" if count in codes else "style=percent"
 
 
 def row_of(tag, options, number, text):
@@ -145,7 +144,7 @@ def units(units_path, names_path):
 def errors(path, currencies):
     for _, options, error in rows(path):
         options = json.loads(options)
-        choice = " ".join(filter(None, [words(options, COUNTS), defaults(options, currencies)]))
+        choice = " ".join(filter(None, [words(options, COUNTS), style_of(options, currencies)]))
         yield f"{choice}\t\t{error}"
 
 
@@ -192,11 +191,5 @@ if sys.argv[1] == "--units":
 elif sys.argv[1] == "--parts":
     print("# Made by `python3 tools/numbers/make_rows.py --parts PARTS`, of parts of node 20.20.2 with CLDR 48, under the "
           "license in tools/locales/LICENSE.\n\n# Parts.\n" + "\n".join(cover_parts(sys.argv[2])))
-elif len(sys.argv) == 2 and next(rows(sys.argv[1]))[-1].startswith("[["):
-    for row in parts(sys.argv[1]):
-        print(row_of_parts(*row))
-elif len(sys.argv) == 2:
-    for row in texts(sys.argv[1]):
-        print(row_of(*row))
 else:
     main(*sys.argv[1:])

@@ -1,7 +1,7 @@
 #!/usr/bin/env python3
-"""Writes rows of `vectors`: skeletons, and the options or the error that ICU has for each.
+"""Writes rows of tests/rows: skeletons, and the options or the error that ICU has for each.
 
-    python3 tools/numbers/skeleton_rows.py SKELETONS MODEL UNITS > crates/vectors/rows/icu_skeletons.tsv
+    python3 tools/numbers/skeleton_rows.py SKELETONS MODEL UNITS > tests/rows/icu_skeletons.tsv
 
 SKELETONS has `skeleton_errors.tsv` and `normal.tsv`, which ICU wrote, `readings.tsv`, and `skeleton.py`, a reader that says
 a skeleton in the options of ECMA-402; MODEL has its tables. UNITS has `skeleton_units_errors.tsv`, `normal_units.tsv` and
@@ -29,7 +29,7 @@ COUNTS = ["{@*65536}", "{@*65537}", "@{#*65535}", "@{#*65536}", ".{0*32768}", ".
           "{.*65536}", "{percent *65536}", "currency/{E*65536}", "numbering-system/{l*65536}", "{/*65536}"]
 DEFAULTS = {"style": "decimal", "currencyDisplay": "symbol", "currencySign": "standard", "currencyUsage": "standard",
             "compactDisplay": "short", "unitDisplay": "short", "decimalSeparator": "auto", "integer": "1,32768", "trailingZeroDisplay": "auto", "signDisplay": "auto",
-            "useGrouping": "auto"}
+            "useGrouping": "auto", "groupSizes": "locale"}
 
 
 def rows(path):
@@ -40,7 +40,7 @@ def rows(path):
 
 
 def escaped(text):
-    """A skeleton of a row as `vectors` reads it: only `\\\\{TEXT*COUNT}` stays short."""
+    """A skeleton of a row as tests/rows.py reads it: only `\\\\{TEXT*COUNT}` stays short."""
     def one(match):
         code = match.group(0)
         if code[1] == "u":
@@ -80,14 +80,12 @@ def unsupported(text, reading, said):
         return "scale"
     if reading.notation in ("scientific", "engineering") and not 1 <= reading.exponent_digits <= 65535:
         return first(text, r"scientific|engineering|E.*")
-    if "no integer digit" in kinds or reading.integer and reading.integer[0] > 32767:
+    if reading.integer and reading.integer[0] > 32767:
         return first(text, r"integer-width(?:-trunc)?|0+")
     if precision(text, reading, said) is None:
         return first(text, r"precision-increment|@.*|\..*")
     if kinds & {"halfOdd", "unnecessary"}:
         return first(text, r"rounding-mode-(?:half-odd|unnecessary)")
-    if "thousands" in kinds:
-        return "group-thousands"
     if "algorithmic" in kinds:
         return "numbering-system"
     return None
@@ -178,11 +176,12 @@ def named(text, reading, said):
         yield "compactDisplay", options["compactDisplay"]
     yield tuple(precision(text, reading, said).split("="))
     low, high = reading.integer or (1, None)
-    yield "integer", f"{low},{min(32768, high or 32768)}"
+    yield "integer", f"{low},{32768 if high is None else min(32768, high)}"
     yield "roundingMode", options["roundingMode"]
     yield "trailingZeroDisplay", "stripIfInteger" if "trailingZeroDisplay" in options else "auto"
     yield "signDisplay", options.get("signDisplay", "auto")
     yield "useGrouping", str(options.get("useGrouping", "auto")).lower()
+    yield "groupSizes", "thousands" if reading.group == "thousands" else "locale"
     yield "decimalSeparator", reading.decimal
     if reading.system:
         yield "numberingSystem", reading.system

@@ -1,6 +1,8 @@
-//! Checks what the programs write, and their statuses.
+//! Checks what the programs write, and their statuses; and skeletons that options are printed as.
 //!
-//! Each line of standard input is a row of six fields with tabs between them; empty last ones may be left out:
+//! Each line of standard input is a row. One of two fields, with a tab between them, is of a skeleton, as
+//! `tests/rows.py` says: the options of the skeleton have to be printed as one. All others have six fields; empty last
+//! ones may be left out:
 //!
 //! 1. `fixdec`, `lines` (`fixdec_lines`) or `plural`, and after a blank perhaps what fails: `read` (each read after the
 //!    input), `memory` (the same, out of memory), `flush` (of a closed pipe), `no-words` (out of memory) or `not-utf8`.
@@ -11,13 +13,17 @@
 //!
 //! `\n`, `\r`, `\t` and `\xff` are bytes. A row is checked with several sizes of reads and writes, and several failures
 //! of a writer without room; one of `fixdec` also by `program`. Blank lines, and lines that start with `#` and have no
-//! tab, are not rows. Each row that fails is printed with its line number; the last line counts the rows.
+//! tab, are not rows. Each row that fails is printed with its line number; the last line counts the rows. To add a row,
+//! write it into `rows/programs.tsv`, run `cat crates/cli_vectors/rows/* tests/rows/*skeletons.tsv >
+//! crates/cli_vectors/stdin`, and raise the count in `stdout`.
 #![tactic(auto)]
 
 mod blocks;
+mod formats;
 mod input;
 mod longest_lines;
 mod row;
+mod skeletons;
 
 use cli::{ErrorLines, LineReader, Program, fixdec, fixdec_lines, plural};
 use fixed_decimal::{Closed, Out};
@@ -111,8 +117,8 @@ fn holds_of_words(
     Some(status == row.status && output.is_in(&out.into_writer()) && errors.is_in(&err))
 }
 
-/// Whether a row holds with each size of reads and writes.
-fn holds(alloc: Global, line: &str) -> Option<bool> {
+/// Whether a row of a program holds with each size of reads and writes.
+fn holds_of_program(alloc: Global, line: &str) -> Option<bool> {
     let row = Row::parse(line)?;
     let input = unescaped(alloc, row.input)?;
     let output = Expected::parse(alloc, row.output)?;
@@ -131,13 +137,33 @@ fn holds(alloc: Global, line: &str) -> Option<bool> {
     Some(true)
 }
 
-fn main(rt: HostRuntime) -> ExitCode {
-    if !longest_lines::are_reported() {
-        let _ = println!(rt; "the longest lines of errors are not reported");
-        return ExitCode::FAILURE;
+/// Whether a row of a line holds.
+fn holds(alloc: Global, line: &str) -> Option<bool> {
+    match line.split_once('\t') {
+        Some((skeleton, expected)) if !expected.contains('\t') => {
+            skeletons::holds(alloc, skeleton, expected)
+        }
+        _ => holds_of_program(alloc, line),
     }
-    if blocks::are_written(rt.alloc()) != Some(true) {
-        let _ = println!(rt; "the longest number is not written in blocks");
+}
+
+/// Returns what does not hold, of what is no row of texts.
+fn failing(alloc: Global) -> Option<&'static str> {
+    if !longest_lines::are_reported() {
+        return Some("the longest lines of errors are not reported");
+    }
+    if blocks::are_written(alloc) != Some(true) {
+        return Some("the longest number is not written in blocks");
+    }
+    if formats::hold(alloc) != Some(true) {
+        return Some("formats that are made by calls have other texts");
+    }
+    None
+}
+
+fn main(rt: HostRuntime) -> ExitCode {
+    if let Some(message) = failing(rt.alloc()) {
+        let _ = println!(rt; "{message}");
         return ExitCode::FAILURE;
     }
     check_rows(&rt, &[], |alloc, row, _| holds(alloc, row))

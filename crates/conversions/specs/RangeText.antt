@@ -1,8 +1,8 @@
 -- The text of the range of two decimals in the form of a locale.
-use Rattle.std.specs.Prelude.{◌≡◌, ◌⊎◌, ℕ, List, Option, None}
-use Rattle.decimal_unsigned.specs.declared.decimal.TheConstants.{INLINE_DIGITS}
-use Rattle.fixed_decimal.specs.{Decimal.Decimal, DecimalText.IsLong, declared.variations.{Sign.Sign, SignDisplay.SignDisplay}}
-use Rattle.number_format.specs.{declared.format.formatter.NumberFormatter.NumberFormatter, NumberText.{shown_number, FormattingNeedsMemory}, RangeText.IsRangeText}
+use Rattle.std.specs.Prelude.{ℕ, Bool, List, Option, None}
+use Rattle.decimal_digits.specs.declared.rounding.RoundError.{RoundError}
+use Rattle.fixed_decimal.specs.{Decimal.Decimal, declared.variations.{Sign.Sign, SignDisplay.SignDisplay}}
+use Rattle.number_format.specs.{declared.format.formatter.NumberFormatter.NumberFormatter, RangeText.{IsRangeText, RangeFormattingFails}}
 use Rattle.conversions.specs.declared.{error.OperationError.{OperationError, TheVariants.{FormatOverflow, Memory, Output}}, range_formatter.{RangeFormatter.RangeFormatter, RangeNumbers.{RangeNumbers, TheVariants.{AllDigits, Skeleton}}, SignedFormatters.SignedFormatters}}
 
 -- the display that shows two signs as they are; if one is a plus sign and the other none, each number but zero has a
@@ -44,13 +44,13 @@ HasRangeTextBy f v w P = (text : List ℕ) × IsRangeTextBy f v w text × P text
 
 -- ---- Errors.
 
--- writing the text of the range may fail with this error. Formatting needs memory for a copy of the start, or for a
--- number
+-- the range of two decimals is not formatted
+abbrev pub FormattingFails : RoundError → RangeFormatter → Decimal → Decimal → Type 0
+FormattingFails why f v w = (at_end : Bool) × RangeFormattingFails (formatter_of f v w) v w at_end why
+
+-- writing the text of the range may fail with this error
 abbrev pub RangeWritingFails : OperationError → RangeFormatter → Decimal → Decimal → Type 0
-RangeWritingFails FormatOverflow f v w =
-    let by = formatter_of f v w in (shown_number by v ≡ None) ⊎ (shown_number by w ≡ None)
-RangeWritingFails Memory f v w =
-    let by = formatter_of f v w in
-    IsLong INLINE_DIGITS v ⊎ (FormattingNeedsMemory by v ⊎ FormattingNeedsMemory by w)
+RangeWritingFails FormatOverflow f v w = FormattingFails RoundError.Limit f v w
+RangeWritingFails Memory f v w = FormattingFails RoundError.Memory f v w
 RangeWritingFails Output f v w = (text : List ℕ) × IsRangeTextBy f v w text
 RangeWritingFails error f v w = ⊥

@@ -1,12 +1,13 @@
 //! Writing of ranges of two decimals in the form of a locale.
-ghost use Rattle.std.specs.{Prelude.{◌≡◌, ◌≢◌, Err, true, IfErr, OnOk}, Io.KnownBytes.Appends};
+ghost use Rattle.std.specs.{Prelude.{◌≡◌, ◌≢◌, Err, true, IfOk, IfErr, OnOk}, Io.KnownBytes.Appends};
 ghost use Rattle.decimal_digits.specs.AppendsPrefix.{AppendsPrefix};
-ghost use Rattle.conversions.specs.RangeText.{shown_signs, formatter_by, system_of, HasRangeTextBy, RangeWritingFails};
+ghost use Rattle.number_format.specs.FormattedRanges.{formatted_range_text};
+ghost use Rattle.conversions.specs.RangeText.{shown_signs, formatter_by, system_of, FormattingFails, HasRangeTextBy, IsRangeTextBy, RangeWritingFails};
 
 use crate::error::OperationError;
 use crate::locale_formatter::write_text;
 use fixed_decimal::{Decimal, RoundError, Sign, SignDisplay, Sink};
-use number_format::{NumberFormatter, NumberingSystem, RangeTexts};
+use number_format::{FormattedRange, NumberFormatter, NumberingSystem, RangeTexts};
 use std::alloc::Global;
 
 /// Formatters of a locale that show all digits, by which signs they show.
@@ -76,6 +77,22 @@ impl RangeNumbers {
 }
 
 impl RangeFormatter<'_> {
+    fn format(
+        &self,
+        alloc: Global,
+        start: Decimal,
+        end: Decimal,
+    ) -> Result<FormattedRange<'_>, RoundError>
+        ensures text { IfOk result (λ range. IsRangeTextBy self.now start end (formatted_range_text range)) }
+        ensures fails { IfErr result (λ why. FormattingFails why self.now start end) }
+    {
+        let formatter = self.numbers.formatter_by(start.sign, end.sign);
+        match formatter.format_range(alloc, &self.texts, start, end) {
+            Ok(range) => Ok(range),
+            Err(failed) => Err(failed.error),
+        }
+    }
+
     /// Appends the text of the range of two decimals to a sink.
     ///
     /// # Errors
@@ -98,13 +115,10 @@ impl RangeFormatter<'_> {
         ensures prefix { IfErr result (λ error. error ≡ OperationError.Output
             → HasRangeTextBy self.now start end (AppendsPrefix (W.contents sink.old) (W.contents sink.new))) }
     {
-        let formatter = self.numbers.formatter_by(start.sign, end.sign);
-        match formatter.format_range(alloc, &self.texts, start, end) {
+        match self.format(alloc, start, end) {
             Ok(range) => write_text(&range, sink),
-            Err(failed) => match failed.error {
-                RoundError::Limit => Err(OperationError::FormatOverflow),
-                RoundError::Memory => Err(OperationError::Memory),
-            },
+            Err(RoundError::Limit) => Err(OperationError::FormatOverflow),
+            Err(RoundError::Memory) => Err(OperationError::Memory),
         }
     }
 }

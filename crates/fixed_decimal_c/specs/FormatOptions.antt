@@ -1,7 +1,7 @@
 -- The options of a formatter, as C keeps them.
 use Rattle.std.specs.{Prelude.{◌≡◌, ℕ, ◌-◌, ◌==◌, if◌then◌else◌, List, [], ◌∷◌, ◌++◌, length, take, replicate, slice_get, Option, Some, None}, Option.{option_and_then, option_map}}
 use Rattle.locale_data.specs.{Codes.system_name, Rows.unpadded}
-use Rattle.number_format.specs.{declared.{digits.{options.DigitOptions.DigitOptions, precision.{BothDigits.BothDigits, Minimum.Minimum, Precision.Precision}, ranges.{FractionDigits.FractionDigits, SignificantDigits.SignificantDigits}}, options.{ExponentSign.ExponentSign, NumberNotation.NumberNotation, NumberOptions.NumberOptions}}, ShownDigits.increment_of}
+use Rattle.number_format.specs.{declared.{digits.{options.DigitOptions.DigitOptions, precision.{BothDigits.BothDigits, Minimum.Minimum, Precision.Precision}, ranges.{FractionDigits.FractionDigits, SignificantDigits.SignificantDigits}}, options.{ExponentSign.ExponentSign, GroupSizes.GroupSizes, NumberNotation.NumberNotation, NumberOptions.NumberOptions}}, ShownDigits.increment_of}
 use Rattle.fixed_decimal_c.specs.{declared.{format_options.FdFormatOptions.FdFormatOptions, styles.StyleCodes.StyleCodes}, Calls.{display_code, mode_code}, NumberOptions.{grouping_code, notations, separators, trailing_zeros}, Styles.IsStyle}
 
 -- ---- Words, in the order of their numbers.
@@ -11,6 +11,9 @@ exponent_signs = ExponentSign.Auto ∷ ExponentSign.Always ∷ ExponentSign.Neve
 
 abbrev pub minimums : List Minimum
 minimums = Minimum.Chosen ∷ Minimum.Both ∷ []
+
+abbrev pub group_sizes : List GroupSizes
+group_sizes = GroupSizes.Locale ∷ GroupSizes.Thousands ∷ []
 
 -- the numbers of the style
 abbrev pub style_codes_in : FdFormatOptions → StyleCodes
@@ -83,6 +86,7 @@ pub record AreFormatOptions (c : FdFormatOptions) (o : NumberOptions) : Type 0 w
   pub digits : AreDigits c o.digits
   pub sign : c.sign_display ≡ display_code o.sign_display
   pub grouping : c.grouping ≡ grouping_code o.grouping
+  pub sizes : slice_get group_sizes c.group_sizes ≡ Some o.group_sizes
   pub separator : slice_get separators c.decimal_separator ≡ Some o.decimal_separator
   pub system : system_with c.has_numbering_system c.numbering_system ≡ Some o.numbering_system
-  pub reserved : c.reserved ≡ replicate 30 0
+  pub reserved : c.reserved ≡ replicate 29 0

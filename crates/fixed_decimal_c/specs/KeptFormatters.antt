@@ -130,7 +130,8 @@ no_options = record {
   rounding_mode = 0;
   trailing_zeros = 0;
   has_numbering_system = 0;
-  reserved = replicate 30 0;
+  group_sizes = 0;
+  reserved = replicate 29 0;
 }
 
 abbrev pub no_formatter : FdFormatter

@@ -2,7 +2,7 @@
 use Rattle.std.specs.{Prelude.{◌≡◌, ℕ, ◌⊎◌, ◌==◌, if◌then◌else◌, Option, Some, None, true, unwrap_or, List, [], ◌∷◌, slice_get, slice_index}, Option.option_map}
 use Rattle.decimal_format.specs.declared.grouping.GroupingStrategy.{GroupingStrategy}
 use Rattle.locale_data.specs.{Codes.system_name, Rows.unpadded}
-use Rattle.number_format.specs.{declared.{digits.{options.TrailingZeros.TrailingZeros, error.DigitOptionsError.DigitOptionsError, settings.{DigitSettings.DigitSettings, RoundingPriority.RoundingPriority}}, options.{CompactLength.CompactLength, DecimalSeparatorDisplay.DecimalSeparatorDisplay, ExponentOptions.ExponentOptions, ExponentSign.ExponentSign, NumberNotation.NumberNotation, NumberOptions.NumberOptions, NumberStyle.NumberStyle}}, DefaultDigits.{increment, is_compact}, DefaultOptions.{default_grouping, HasDigitsOf, DigitsFail}}
+use Rattle.number_format.specs.{declared.{digits.{options.TrailingZeros.TrailingZeros, error.DigitOptionsError.DigitOptionsError, settings.{DigitSettings.DigitSettings, RoundingPriority.RoundingPriority}}, options.{CompactLength.CompactLength, DecimalSeparatorDisplay.DecimalSeparatorDisplay, ExponentOptions.ExponentOptions, ExponentSign.ExponentSign, GroupSizes.GroupSizes, NumberNotation.NumberNotation, NumberOptions.NumberOptions, NumberStyle.NumberStyle}}, DefaultDigits.{increment, is_compact}, DefaultOptions.{default_grouping, HasDigitsOf, DigitsFail}}
 use Rattle.fixed_decimal_c.specs.{declared.{error.FdError.{FdError, TheVariants.{UnknownOption, DigitOptions as WrongDigits}}, number_options.FdNumberOptions.FdNumberOptions, styles.StyleCodes.StyleCodes}, Calls.{display_code, mode_code}, Styles.{IsStyle, has_sanctioned_unit}}
 
 abbrev pub grouping_code : GroupingStrategy → ℕ
@@ -72,6 +72,7 @@ pub record AreChoices (c : FdNumberOptions) (o : NumberOptions) : Type 0 where
   pub sign : c.sign_display ≡ display_code o.sign_display
   pub grouping :
       (g : GroupingStrategy) × (c.grouping ≡ grouping_code g) × (o.grouping ≡ grouping_in o.notation g)
+  pub sizes : o.group_sizes ≡ GroupSizes.Locale
   pub separator : slice_get separators c.decimal_separator ≡ Some o.decimal_separator
   pub system : system_of c.numbering_system ≡ Some o.numbering_system
 

@@ -6,7 +6,7 @@ use Rattle.fixed_decimal_c.specs.{declared.{error.FdError.{FdError, TheVariants.
 
 -- the pieces of all segments
 abbrev pub all_pieces : RangePieces → List Piece
-all_pieces p = p.prefix ++ (p.outer_prefix ++ (p.start ++ (p.middle ++ (p.end ++ (p.suffix ++ p.outer_suffix)))))
+all_pieces p = p.prefix ++ (p.start ++ (p.middle ++ (p.end ++ p.suffix)))
 
 abbrev pub pieces_of_range : FormattedRange → List Piece
 pieces_of_range r = all_pieces (range_pieces (shown_range r))
@@ -14,7 +14,7 @@ pieces_of_range r = all_pieces (range_pieces (shown_range r))
 -- where the segments of the start and of the end are in the text
 abbrev pub bounds_of : RangePieces → RangeBounds
 bounds_of p =
-    let start = length (pieces_text p.prefix) + length (pieces_text p.outer_prefix) in
+    let start = length (pieces_text p.prefix) in
     let middle = start + length (pieces_text p.start) in
     let end = middle + length (pieces_text p.middle) in
     record { start = start; middle = middle; end = end; after = end + length (pieces_text p.end) }

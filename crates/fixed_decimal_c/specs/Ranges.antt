@@ -1,20 +1,20 @@
 -- Ranges of two decimals, as a formatter that C keeps writes them, and their plural categories.
-use Rattle.std.specs.{Prelude.{◌≡◌, ◌⊎◌, ℕ, zero, suc, ℤ, pos, List, Some, None, Result, Ok, Err}, Str.IsUtf8}
-use Rattle.decimal_unsigned.specs.declared.decimal.TheConstants.{INLINE_DIGITS}
-use Rattle.fixed_decimal.specs.{Decimal.Decimal, DecimalText.{read_decimal, IsLong}}
+use Rattle.std.specs.{Prelude.{◌≡◌, ◌⊎◌, ℕ, Bool, if◌then◌else◌, ℤ, pos, List, Some, Result, Ok, Err}, Str.IsUtf8}
+use Rattle.decimal_digits.specs.declared.rounding.RoundError.{RoundError}
+use Rattle.fixed_decimal.specs.{Decimal.Decimal, DecimalText.read_decimal}
 use Rattle.plural_rules.specs.declared.rules.PluralCategory.{PluralCategory}
 use Rattle.locale_data.specs.{Locales.IsUnknown, PluralRanges.plural_range_category, Plurals.HasNoRules, Rows.unpadded}
-use Rattle.number_format.specs.{declared.{format.{ids.FormatterIds.FormatterIds, formatter.NumberFormatter.NumberFormatter}, options.NumberOptions.NumberOptions, range.range_texts.RangeTexts.RangeTexts}, Formatters.{system_text, IsFormatterAt}, FormattedRanges.AreRangeTexts, NumberText.{shown_number, FormattingNeedsMemory}, RangeText.IsRangeText, Scaled.ScaledValue}
-use Rattle.fixed_decimal_c.specs.{declared.{error.FdError.{FdError, TheVariants.{Formatter, Memory, Overflow, UnknownLocale, UnknownOption}}, formatter.FdFormatter.FdFormatter}, Categories.category_code, FormatOptions.AreFormatOptions, FormatRows.AreRows, KeptFormatters.IsNoFormatter, Numbers.ParsingFails, Texts.{WritesNothing, WritesTo}}
+use Rattle.number_format.specs.{declared.{format.{ids.FormatterIds.FormatterIds, formatter.NumberFormatter.NumberFormatter}, options.NumberOptions.NumberOptions, range.range_texts.RangeTexts.RangeTexts}, Formatters.{system_text, IsRangeFormatterAt}, FormattedRanges.AreRangeTexts, RangeText.{IsRangeText, RangeFormattingFails}}
+use Rattle.fixed_decimal_c.specs.{declared.{error.FdError.{FdError, TheVariants.{Formatter, UnknownLocale, UnknownOption}}, formatter.FdFormatter.FdFormatter}, Categories.category_code, FormatOptions.AreFormatOptions, FormatRows.AreRows, KeptFormatters.IsNoFormatter, Numbers.ParsingFails, NumberTexts.error_of_format, Texts.{WritesNothing, WritesTo}}
 
 -- ---- The formatter, and the texts of ranges of its locale.
 
--- the formatter of the rows and the options that C has, and the texts of ranges of its tag, in the numbering system of
--- the options or else of the rows
+-- the formatter of ranges of the rows and the options that C has, and the texts of ranges of its tag, in the numbering
+-- system of the options or else of the rows
 abbrev pub IsRangeFormatterIn : FdFormatter → NumberFormatter → RangeTexts → Type 0
 IsRangeFormatterIn c f t =
     (ids : FormatterIds) × (o : NumberOptions) × AreRows c.rows ids × AreFormatOptions c.options o
-    × IsFormatterAt ids o f × (system : List ℕ) × (system_text ids.symbols o.numbering_system ≡ Some system)
+    × IsRangeFormatterAt ids o f × (system : List ℕ) × (system_text ids.symbols o.numbering_system ≡ Some system)
     × AreRangeTexts (unpadded c.tag) (Some system) t
 
 -- C has no formatter, or no tag of a known locale
@@ -28,14 +28,15 @@ abbrev pub EndsFail : FdError → List ℕ → List ℕ → Type 0
 EndsFail error start end =
     ParsingFails error start 0 ⊎ ((v : Decimal) × (read_decimal start ≡ Ok v) × ParsingFails error end 1)
 
--- formatting a range fails: the start is shown beyond the limits; or the start is not, and the end is; or out of
--- memory, where a copy of the start or one of the numbers needs it
+-- the place of an error: 0 is that of the start, 1 that of the end
+abbrev pub place_of_end : Bool → ℕ
+place_of_end at_end = if at_end then 1 else 0
+
+-- formatting a range fails
 abbrev pub RangeFails : NumberFormatter → Decimal → Decimal → FdError → Type 0
-RangeFails f v w (Overflow zero) = shown_number f v ≡ None
-RangeFails f v w (Overflow (suc zero)) =
-    (number : ScaledValue) × (shown_number f v ≡ Some number) × (shown_number f w ≡ None)
-RangeFails f v w Memory = IsLong INLINE_DIGITS v ⊎ (FormattingNeedsMemory f v ⊎ FormattingNeedsMemory f w)
-RangeFails f v w error = ⊥
+RangeFails f v w error =
+    (at_end : Bool) × (why : RoundError) × RangeFormattingFails f v w at_end why
+    × (error ≡ error_of_format why (place_of_end at_end))
 
 -- ---- Writing.
 

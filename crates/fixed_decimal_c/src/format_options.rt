@@ -3,7 +3,7 @@ ghost use Rattle.std.specs.Prelude.{◌≡◌, ◌<◌, Option, replicate, slice
 ghost use Rattle.number_format.specs.declared.{digits.{options.DigitOptions.DigitOptions, precision.{BothDigits.BothDigits, Precision.Precision}, ranges.{FractionDigits.FractionDigits, FractionMultiples.FractionMultiples, IntegerDigits.IntegerDigits, SignificantDigits.SignificantDigits}}, options.{NumberNotation.NumberNotation, NumberOptions.NumberOptions, NumberStyle.NumberStyle}};
 ghost use Rattle.number_format.specs.ShownDigits.{increment_of};
 ghost use Rattle.locale_data.specs.{Codes.system_name, Rows.unpadded};
-ghost use Rattle.fixed_decimal_c.specs.{NumberOptions.{trailing_zeros, separators, grouping_code}, Styles.IsStyle, FormatOptions.{padded_name, exponent_signs, minimums, style_codes_in, notation_with, system_with, AreFraction, AreSignificant, AreBoth, IsPrecision, AreShownDigits, AreDigits, AreFormatOptions}};
+ghost use Rattle.fixed_decimal_c.specs.{NumberOptions.{trailing_zeros, separators, grouping_code}, Styles.IsStyle, FormatOptions.{padded_name, exponent_signs, minimums, group_sizes, style_codes_in, notation_with, system_with, AreFraction, AreSignificant, AreBoth, IsPrecision, AreShownDigits, AreDigits, AreFormatOptions}};
 
 use crate::calls::{display, display_code, mode, mode_code};
 use crate::choices::choice;
@@ -13,7 +13,7 @@ use decimal_format::GroupingStrategy;
 use locale_data::{NumberingSystem, unpadded};
 use number_format::{
     BothDigits, CompactLength, DecimalSeparatorDisplay, DigitOptions, ExponentOptions,
-    ExponentSign, FractionDigits, FractionMultiples, Increment, IntegerDigits, Minimum,
+    ExponentSign, FractionDigits, FractionMultiples, GroupSizes, Increment, IntegerDigits, Minimum,
     NumberNotation, NumberOptions, NumberStyle, Precision, SignificantDigits, TrailingZeros,
 };
 
@@ -80,8 +80,10 @@ pub struct FdFormatOptions {
     pub trailing_zeros: u8,
     /// Whether the numbering system is given: 0 no, it is that of the locale, 1 yes.
     pub has_numbering_system: u8,
+    /// Which groups are separated: 0 those of the locale, 1 groups of three digits.
+    pub group_sizes: u8,
     /// Zeros.
-    pub reserved: [u8; 30],
+    pub reserved: [u8; 29],
 }
 
 /// The options with all fields 0.
@@ -114,7 +116,8 @@ pub(crate) const NO_OPTIONS: FdFormatOptions = FdFormatOptions {
     rounding_mode: 0,
     trailing_zeros: 0,
     has_numbering_system: 0,
-    reserved: [0; 30],
+    group_sizes: 0,
+    reserved: [0; 29],
 };
 
 const EXPONENT_SIGNS: [ExponentSign; 3] = [
@@ -124,6 +127,8 @@ const EXPONENT_SIGNS: [ExponentSign; 3] = [
 ];
 
 const MINIMUMS: [Minimum; 2] = [Minimum::Chosen, Minimum::Both];
+
+const GROUP_SIZES: [GroupSizes; 2] = [GroupSizes::Locale, GroupSizes::Thousands];
 
 // ---- The options that C has.
 
@@ -291,7 +296,7 @@ impl FdFormatOptions {
         ensures some { IfSome result (AreFormatOptions self.now) }
         ensures none { IfNone result ((o : NumberOptions) → AreFormatOptions self.now o → ⊥) }
     {
-        if self.reserved != [0; 30] {
+        if self.reserved != [0; 29] {
             return None;
         }
         Some(NumberOptions {
@@ -301,6 +306,7 @@ impl FdFormatOptions {
             digits: self.digits()?,
             sign_display: display(self.sign_display)?,
             grouping: grouping(self.grouping)?,
+            group_sizes: choice(&GROUP_SIZES, self.group_sizes)?,
             decimal_separator: choice(&SEPARATORS, self.decimal_separator)?,
             numbering_system: self.system()?,
         })
@@ -336,6 +342,12 @@ fn grouping_number(grouping: GroupingStrategy) -> u8
     ensures { result ≡ grouping_code grouping }
 {
     grouping as u8
+}
+
+fn sizes_number(sizes: GroupSizes) -> u8
+    ensures { slice_get group_sizes result ≡ Some sizes }
+{
+    sizes as u8
 }
 
 fn separator_number(separator: DecimalSeparatorDisplay) -> u8
@@ -385,7 +397,7 @@ fn system_codes(system: &Option<NumberingSystem>) -> (u8, [u8; 16])
 fn both_options(precision: u8, both: BothDigits) -> FdFormatOptions
     ensures precision { result.precision ≡ precision }
     ensures both { AreBoth result both }
-    ensures reserved { result.reserved ≡ replicate 30 0 }
+    ensures reserved { result.reserved ≡ replicate 29 0 }
 {
     FdFormatOptions {
         minimum_significant_digits: both.significant.min,
@@ -401,7 +413,7 @@ fn both_options(precision: u8, both: BothDigits) -> FdFormatOptions
 
 fn precision_options(precision: Precision) -> FdFormatOptions
     ensures precision { IsPrecision result precision }
-    ensures reserved { result.reserved ≡ replicate 30 0 }
+    ensures reserved { result.reserved ≡ replicate 29 0 }
 {
     match precision {
         Precision::Fraction(fraction) => FdFormatOptions {
@@ -432,7 +444,7 @@ fn precision_options(precision: Precision) -> FdFormatOptions
 
 fn digit_options(digits: Option<DigitOptions>) -> FdFormatOptions
     ensures digits { AreDigits result digits }
-    ensures reserved { result.reserved ≡ replicate 30 0 }
+    ensures reserved { result.reserved ≡ replicate 29 0 }
 {
     match digits {
         None => NO_OPTIONS,
@@ -477,6 +489,7 @@ impl FdFormatOptions {
             grouping: grouping_number(options.grouping),
             decimal_separator: separator_number(options.decimal_separator),
             has_numbering_system,
+            group_sizes: sizes_number(options.group_sizes),
             ..digits
         }
     }

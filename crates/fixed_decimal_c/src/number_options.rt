@@ -12,7 +12,8 @@ use decimal_format::GroupingStrategy;
 use locale_data::{NumberingSystem, unpadded};
 use number_format::{
     CompactLength, DecimalSeparatorDisplay, DigitOptionsError, DigitSettings, ExponentOptions,
-    ExponentSign, NumberNotation, NumberOptions, NumberStyle, RoundingPriority, TrailingZeros,
+    ExponentSign, GroupSizes, NumberNotation, NumberOptions, NumberStyle, RoundingPriority,
+    TrailingZeros,
 };
 
 /// The options of a number: those of ECMA-402, and a scale. A word is its number in the list of its option.
@@ -191,6 +192,7 @@ impl FdNumberOptions {
             digits: None,
             sign_display: display(self.sign_display)?,
             grouping: grouping_in(notation, grouping(self.grouping)?),
+            group_sizes: GroupSizes::Locale,
             decimal_separator: choice(&SEPARATORS, self.decimal_separator)?,
             numbering_system: system(self.numbering_system)?,
         })

@@ -73,7 +73,6 @@ impl<'a> PartList<'a> {
         ensures bounds { result ≡ bounds_of (range_pieces (shown_range range.now)) }
     {
         self.take_segment(range, RangeSegment::Prefix);
-        self.take_segment(range, RangeSegment::OuterPrefix);
         let start = self.last.end;
         self.take_segment(range, RangeSegment::Start);
         let middle = self.last.end;
@@ -82,7 +81,6 @@ impl<'a> PartList<'a> {
         self.take_segment(range, RangeSegment::End);
         let after = self.last.end;
         self.take_segment(range, RangeSegment::Suffix);
-        self.take_segment(range, RangeSegment::OuterSuffix);
         RangeBounds {
             start,
             middle,
@@ -151,7 +149,7 @@ fn write_range_parts(
 {
     match formatter.format_range(alloc, texts, start, end) {
         Ok(range) => write_parts(&range, buffer, parts),
-        Err(failed) => (NO_COUNTS, Err(error_of_range(alloc, formatter, failed))),
+        Err(failed) => (NO_COUNTS, Err(error_of_range(&failed))),
     }
 }
 

@@ -1,17 +1,16 @@
 //! Ranges of two decimals, by a formatter that C keeps.
-ghost use Rattle.std.specs.Prelude.{◌≡◌, ◌⊎◌, Some, None, Ok, IfOk, IfErr, IfSome, IfNone};
-ghost use Rattle.decimal_unsigned.specs.declared.decimal.TheConstants.{INLINE_DIGITS};
-ghost use Rattle.fixed_decimal.specs.DecimalText.{IsLong, read_decimal};
+ghost use Rattle.std.specs.Prelude.{◌≡◌, Some, None, Ok, IfOk, IfErr, IfSome, IfNone};
+ghost use Rattle.fixed_decimal.specs.DecimalText.{read_decimal};
 ghost use Rattle.locale_data.specs.Locales.{symbols_at};
-ghost use Rattle.number_format.specs.{Formatters.system_text, NumberText.{shown_number, FormattingNeedsMemory}, RangeText.IsRangeText};
-ghost use Rattle.fixed_decimal_c.specs.{Ranges.{EndsFail, FormatsRange, IsNoRangeFormatter, IsRangeFormatterIn, RangeFails, WritesRange}, Texts.WritesTo};
+ghost use Rattle.number_format.specs.{Formatters.system_text, RangeText.IsRangeText};
+ghost use Rattle.fixed_decimal_c.specs.{NumberTexts.error_of_format, Ranges.{EndsFail, FormatsRange, IsNoRangeFormatter, IsRangeFormatterIn, RangeFails, WritesRange, place_of_end}, Texts.WritesTo};
 
 use crate::error::FdError;
 use crate::format::error_of_format;
 use crate::formatter::FdFormatter;
 use crate::numbers::read;
 use crate::texts::write_by_block;
-use fixed_decimal::{Decimal, RoundError};
+use fixed_decimal::Decimal;
 use locale_data::{LocaleId, NumberingSystem, system_name_at, unpadded};
 use number_format::{NumberFormatter, RangeFormatError, RangeTexts};
 use std::alloc::Global;
@@ -35,7 +34,7 @@ fn system_at(id: LocaleId, name: &Option<NumberingSystem>) -> Option<NumberingSy
 }
 
 impl FdFormatter {
-    /// Returns the formatter of the rows and the options, and what its locale writes of ranges.
+    /// Returns the formatter of ranges of the rows and the options, and what its locale writes of ranges.
     pub(crate) fn decode_range(&self) -> Option<(NumberFormatter, RangeTexts<'_>)>
         ensures some { IfSome result (λ found. IsRangeFormatterIn self.now found.0 found.1) }
         ensures none { IfNone result (IsNoRangeFormatter self.now) }
@@ -43,7 +42,7 @@ impl FdFormatter {
         let Some((ids, options)) = self.ids_and_options() else {
             return None;
         };
-        let Some(formatter) = NumberFormatter::at(&ids, &options) else {
+        let Some(formatter) = NumberFormatter::ranges_at(&ids, &options) else {
             return None;
         };
         let Some(system) = system_at(ids.symbols, &options.numbering_system) else {
@@ -75,31 +74,11 @@ pub(crate) fn read_ends(
     }
 }
 
-/// Returns the error of a range that is not formatted: an overflow is that of the first number, 0, if it is beyond the
-/// limits, and else that of the second one, 1.
-pub(crate) fn error_of_range(
-    alloc: Global,
-    formatter: &NumberFormatter,
-    failed: RangeFormatError,
-) -> FdError
-    requires limit { failed.error ≡ RoundError.Limit
-        → (shown_number formatter.now failed.start ≡ None) ⊎ (shown_number formatter.now failed.end ≡ None) }
-    requires memory { failed.error ≡ RoundError.Memory → IsLong INLINE_DIGITS failed.start
-        ⊎ (FormattingNeedsMemory formatter.now failed.start ⊎ FormattingNeedsMemory formatter.now failed.end) }
-    ensures { RangeFails formatter.now failed.start failed.end result }
+/// Returns the error of a range that is not formatted: an overflow is that of the first number, 0, or of the second, 1.
+pub(crate) fn error_of_range(failed: &RangeFormatError) -> FdError
+    ensures { result ≡ error_of_format failed.now.error (place_of_end failed.now.at_end) }
 {
-    let RangeFormatError {
-        error,
-        start,
-        end: _,
-    } = failed;
-    match error {
-        RoundError::Memory => FdError::Memory,
-        RoundError::Limit => match formatter.format(alloc, start) {
-            Ok(_) => FdError::Overflow { at: 1 },
-            Err(first) => error_of_format(first.error, 0),
-        },
-    }
+    error_of_format(failed.error, if failed.at_end { 1 } else { 0 })
 }
 
 /// Writes the range of two decimals by a formatter.
@@ -116,7 +95,7 @@ fn write_range(
 {
     match formatter.format_range(alloc, texts, start, end) {
         Ok(range) => write_by_block(&range, buffer),
-        Err(failed) => Err(error_of_range(alloc, formatter, failed)),
+        Err(failed) => Err(error_of_range(&failed)),
     }
 }
 

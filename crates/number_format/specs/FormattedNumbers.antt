@@ -1,11 +1,12 @@
 -- The text of a formatted number.
-use Rattle.std.specs.Prelude.{◌≡◌, ◌⊎◌, ◌↔◌, ℕ, Bool, true, ◌≢◌, IsTrue, if◌then◌else◌, List, [], ◌++◌, Option, Some, None, ℤ}
+use Rattle.std.specs.Prelude.{◌≡◌, ◌⊎◌, ◌↔◌, ℕ, Bool, true, false, ◌≢◌, IsTrue, if◌then◌else◌, List, [], ◌++◌, Option, Some, None, ℤ}
+use Rattle.decimal_unsigned.specs.Unsigned.{Unsigned}
 use Rattle.fixed_decimal.specs.Decimal.{Decimal}
-use Rattle.decimal_format.specs.{Formatted.absolute_text, declared.grouping.GroupingStrategy.TheVariants.Never}
+use Rattle.decimal_format.specs.{Formatted.{absolute_text, separator_before, separator_after}, Symbols.Symbols, declared.grouping.GroupingStrategy.{GroupingStrategy, TheVariants.Never}}
 use Rattle.locale_data.specs.{Compact.{pattern_for, patterns_in}, Plurals.IsCategoryAt, declared.{compact.CompactStyle.CompactStyle, tables.rows.compact.CompactPattern.CompactPattern}}
 use Rattle.plural_rules.specs.Operands as operands
 use Rattle.plural_rules.specs.declared.rules.PluralCategory.{PluralCategory}
-use Rattle.number_format.specs.{declared.{notation.scale.ShownNumber.ShownNumber, options.NumberNotation.NumberNotation, format.{outer.OuterAround.OuterAround, compact.CompactChoice.CompactChoice, formatted_number.FormattedNumber.FormattedNumber, formatter.NumberFormatter.NumberFormatter}}, NumberText.{around_by, bare_separator, compact_style, compact_pattern, compact_magnitude, has_categories, is_one, number_before_cut, shown_number, outer_by, outer_operands, exponent_of, number_part}, PatternTexts.{Around, sign_text, within}, Scaled.{ScaledValue, scaled_value}, TextParts.{Piece, parts_text, pieces_of, pieces_text}}
+use Rattle.number_format.specs.{declared.{notation.scale.ShownNumber.ShownNumber, options.NumberNotation.NumberNotation, format.{outer.OuterAround.OuterAround, compact.CompactChoice.CompactChoice, formatted_number.FormattedNumber.FormattedNumber, formatter.NumberFormatter.NumberFormatter, text_part.PartKind.PartKind}}, NumberText.{around_by, bare_separator, hides_zero, compact_style, compact_pattern, compact_magnitude, has_categories, is_one, number_before_cut, shown_number, outer_by, outer_operands, exponent_of, number_part}, PatternTexts.{Around, sign_text, within}, Scaled.{ScaledValue, scaled_value}, TextParts.{Piece, digit_if, digit_pieces, parts_text, pieces_of, pieces_text}}
 
 -- the compact pattern that is chosen, in compact notation
 abbrev pub chosen_pattern : Option CompactStyle → CompactChoice → Option CompactPattern
@@ -50,10 +51,29 @@ abbrev pub separator_of : FormattedNumber → List ℕ
 separator_of n =
     bare_separator n.formatter.now.options.decimal_separator n.formatter.now.style.symbols n.value.absolute
 
--- the digits of the significand, with that separator
+-- the digits of a value, of which the integer digits may be hidden
+abbrev pub digits_text : Bool → Symbols → GroupingStrategy → Unsigned → List ℕ
+digits_text false s strategy v = absolute_text s strategy v
+digits_text true s strategy v = pieces_text (digit_pieces true PartKind.Integer s strategy v)
+
+-- a magnitude of which integer digits are hidden
+abbrev pub fraction_magnitude : Symbols → GroupingStrategy → Unsigned → ℤ → List ℕ
+fraction_magnitude s strategy v m =
+    separator_before s m ++ (digit_if true s v.number m ++ separator_after s strategy v.hi m)
+
+-- the number begins with the decimal separator
+abbrev pub hides_zero_of : FormattedNumber → Bool
+hides_zero_of n =
+    hides_zero n.formatter.now.digits n.formatter.now.options.decimal_separator n.value.absolute
+
+-- the digits of the significand
+abbrev pub digits_of : FormattedNumber → List ℕ
+digits_of n =
+    digits_text (hides_zero_of n) n.formatter.now.style.symbols n.formatter.now.options.grouping n.value.absolute
+
+-- the same with that separator
 abbrev pub significand_text : FormattedNumber → List ℕ
-significand_text n =
-    absolute_text n.formatter.now.style.symbols n.formatter.now.options.grouping n.value.absolute ++ separator_of n
+significand_text n = digits_of n ++ separator_of n
 
 -- and the exponent
 abbrev pub number_text : FormattedNumber → List ℕ

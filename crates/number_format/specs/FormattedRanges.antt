@@ -3,7 +3,7 @@ use Rattle.std.specs.Prelude.{◌≡◌, ◌⊎◌, ℕ, Bool, if◌then◌else�
 use Rattle.fixed_decimal.specs.Decimal.{Decimal}
 use Rattle.plural_rules.specs.declared.rules.PluralCategory.{PluralCategory}
 use Rattle.locale_data.specs.{declared.locales.LocaleId.LocaleId, Locales.AreRowsOf, RangeFormats.IsRangeFormat}
-use Rattle.number_format.specs.{declared.{format.{outer.OuterAround.OuterAround, formatted_number.FormattedNumber.FormattedNumber, formatter.NumberFormatter.NumberFormatter}, range.{common.BareParts.BareParts, formatted_range.{FormattedRange.FormattedRange, RangeSegment.{RangeSegment, TheVariants.{Prefix, OuterPrefix, Start, Middle, End, Suffix, OuterSuffix}}, RangeSource.{RangeSource, TheVariants.{Shared, StartRange, EndRange}}}, range_texts.RangeTexts.RangeTexts, segment.{InnerSegment.InnerSegment, Segment.Segment}}}, Formatters.system_text, FormattedNumbers.{number_pieces_if, number_text_if, pattern_of}, NumberText.outer_by, PatternTexts.Around, RangeText.{IsRangeEnd, RangeEnd, RangePieces, ShownRange, range_pieces, text_of_pieces}, TextParts.{Piece, parts_pieces, parts_text, pieces_of, pieces_text}}
+use Rattle.number_format.specs.{declared.{format.{outer.OuterAround.OuterAround, formatted_number.FormattedNumber.FormattedNumber, formatter.NumberFormatter.NumberFormatter}, range.{affixes.WideAffixes.WideAffixes, formatted_range.{FormattedRange.FormattedRange, RangeSegment.{RangeSegment, TheVariants.{Prefix, Start, Middle, End, Suffix}}, RangeSource.{RangeSource, TheVariants.{Shared, StartRange, EndRange}}}, range_texts.RangeTexts.RangeTexts, segment.Segment.Segment}}, Formatters.system_text, FormattedNumbers.{number_pieces_if, number_text_if, pattern_of}, NumberText.outer_by, PatternTexts.Around, RangeText.{IsRangeEnd, RangeEnd, RangePieces, ShownRange, range_pieces, text_of_pieces}, TextParts.{Piece, parts_pieces, parts_text, pieces_of, pieces_text}}
 
 -- ---- The texts of a locale.
 
@@ -42,12 +42,10 @@ shown_range t = record {
 -- the pieces of a segment
 abbrev pub pieces_in : RangePieces → RangeSegment → List Piece
 pieces_in p Prefix = p.prefix
-pieces_in p OuterPrefix = p.outer_prefix
 pieces_in p Start = p.start
 pieces_in p Middle = p.middle
 pieces_in p End = p.end
 pieces_in p Suffix = p.suffix
-pieces_in p OuterSuffix = p.outer_suffix
 
 abbrev pub formatted_range_pieces : FormattedRange → RangeSegment → List Piece
 formatted_range_pieces t = pieces_in (range_pieces (shown_range t))
@@ -64,28 +62,17 @@ formatted_range_text t = text_of_pieces (range_pieces (shown_range t))
 
 -- ---- Private: used only in the contracts of private functions.
 
--- the text of the last three segments, and of the last five
-abbrev pub text_from_end : FormattedRange → List ℕ
-text_from_end t =
+-- the text of the last three segments
+abbrev pub text_from_middle : FormattedRange → List ℕ
+text_from_middle t =
     let text = λ (segment : RangeSegment). pieces_text (formatted_range_pieces t segment) in
-    text End ++ (text Suffix ++ text OuterSuffix)
+    text Middle ++ (text End ++ text Suffix)
 
-abbrev pub text_from_start : FormattedRange → List ℕ
-text_from_start t =
-    pieces_text (formatted_range_pieces t Start)
-    ++ (pieces_text (formatted_range_pieces t Middle) ++ text_from_end t)
-
--- the parts are what is around a number, without spaces
-pub record AreBareParts (a : Around) (shown : BareParts) : Type 0 where
+-- the parts are what is around a number
+pub record AreWideAffixes (a : Around) (shown : WideAffixes) : Type 0 where
   pub prefix : parts_pieces shown.prefix ≡ a.prefix
   pub has_number : shown.has_number ≡ a.has_number
   pub suffix : parts_pieces shown.suffix ≡ a.suffix
-
-abbrev pub inner_pieces : InnerSegment → List Piece
-inner_pieces s = parts_pieces s.prefix ++ (number_pieces_if s.number.now s.has_number ++ parts_pieces s.suffix)
-
-abbrev pub inner_text : InnerSegment → List ℕ
-inner_text s = parts_text s.prefix ++ (number_text_if s.number.now s.has_number ++ parts_text s.suffix)
 
 -- what is before the whole text, or after it; its texts are one piece
 abbrev pub outer_text : OuterAround → Bool → List ℕ
@@ -95,10 +82,16 @@ abbrev pub outer_pieces : OuterAround → Bool → List Piece
 outer_pieces u is_after = pieces_of u.kind (outer_text u is_after)
 
 abbrev pub segment_pieces : Segment → List Piece
-segment_pieces s = outer_pieces s.outer s.is_after ++ inner_pieces s.inner
+segment_pieces s =
+    parts_pieces s.affixes.prefix
+    ++ (number_pieces_if s.number.now s.affixes.has_number
+    ++ (parts_pieces s.affixes.suffix ++ outer_pieces s.outer s.is_after))
 
 abbrev pub segment_text : Segment → List ℕ
-segment_text s = outer_text s.outer s.is_after ++ inner_text s.inner
+segment_text s =
+    parts_text s.affixes.prefix
+    ++ (number_text_if s.number.now s.affixes.has_number
+    ++ (parts_text s.affixes.suffix ++ outer_text s.outer s.is_after))
 
 -- a formatted number is an end of a range, and has the category of what is around the whole text
 abbrev pub IsFormattedEnd : NumberFormatter → Decimal → FormattedNumber → Type 0

@@ -3,7 +3,7 @@ use Rattle.std.specs.{Prelude.{◌≡◌, ℕ, ◌==◌, Bool, true, false, ◌�
 use Rattle.fixed_decimal.specs.declared.variations.SignDisplay.{SignDisplay}
 use Rattle.decimal_format.specs.{Symbols.Symbols, declared.grouping.{GroupingSizes.GroupingSizes, GroupingStrategy.GroupingStrategy}}
 use Rattle.locale_data.specs.{declared.{compact.CompactStyle.CompactStyle, currency.{CurrencyId.CurrencyId, CurrencyPattern.CurrencyPattern, CurrencySign.CurrencySign}, local_currency.{CurrencyDigits.CurrencyDigits, LocalCurrency.LocalCurrency}, locales.LocaleId.LocaleId, tables.{formats.TheConstants.{PATTERNS, NUMBER_SIGNS}, rows.patterns.{NumberSigns.NumberSigns, Pattern.Pattern}}, number_formats.NumberFormats.NumberFormats, plurals.PluralRuleType.TheVariants.Cardinal}, Compact.AreExponents, Currencies.{currency_with, digits_of, IsCurrencyId, IsCurrencyAt, IsCurrencyPattern, LacksCurrency}, Formats.AreFormatsOf, Locales.{symbols_at, system_named, system_name_at, AreRowsOf, IsLocale, IsLocaleIn, IsUnknown}, Patterns.{separator_text, exponent_text}, Plurals.{rules_text_at, IsRulesText, HasNoRules}}
-use Rattle.number_format.specs.{declared.{digits.options.DigitOptions.DigitOptions, notation.Notation.Notation, format.{outer.OuterTexts.OuterTexts, ids.{FormatterIds.FormatterIds, NumberFormatError.NumberFormatError}, formatter.NumberFormatter.NumberFormatter, currency.ShownCurrency.ShownCurrency}, options.{CurrencyStyle.CurrencyStyle, DecimalSeparatorDisplay.DecimalSeparatorDisplay, NumberNotation.NumberNotation, NumberOptions.NumberOptions, NumberStyle.NumberStyle}}, DefaultDigits.AreDefaultDigits, NumberStyles.{plain_pattern, money_pattern, percent_text, percent_kind, in_system, outer_for, AreOuterTexts, AreOuterTextsOfRanges, IsShownBy, IsShownCurrency}, NumberText.compact_style}
+use Rattle.number_format.specs.{declared.{digits.options.DigitOptions.DigitOptions, notation.Notation.Notation, format.{outer.OuterTexts.OuterTexts, ids.{FormatterIds.FormatterIds, NumberFormatError.NumberFormatError}, formatter.NumberFormatter.NumberFormatter, currency.ShownCurrency.ShownCurrency}, options.{CurrencyStyle.CurrencyStyle, DecimalSeparatorDisplay.DecimalSeparatorDisplay, GroupSizes.GroupSizes, NumberNotation.NumberNotation, NumberOptions.NumberOptions, NumberStyle.NumberStyle}}, DefaultDigits.AreDefaultDigits, NumberStyles.{plain_pattern, money_pattern, percent_text, percent_kind, in_system, outer_for, outer_alone, AreOuterTexts, IsShownBy, IsShownCurrency}, NumberText.compact_style}
 
 -- ---- What options say by themselves.
 
@@ -12,11 +12,13 @@ abbrev pub currency_sign : SignDisplay → CurrencySign → CurrencySign
 currency_sign SignDisplay.Never s = CurrencySign.Standard
 currency_sign other s = s
 
--- the sizes of a pattern, by `Always` 3 if it has none; the least number of digits is that of the locale
-abbrev pub style_sizes : Pattern → GroupingStrategy → GroupingSizes → GroupingSizes
-style_sizes p GroupingStrategy.Always own =
+-- groups of three; or the sizes of a pattern, by `Always` 3 if it has none; the least number of digits is that of the
+-- locale
+abbrev pub style_sizes : Pattern → GroupSizes → GroupingStrategy → GroupingSizes → GroupingSizes
+style_sizes p GroupSizes.Thousands strategy own = record own { primary = 3; secondary = 3 }
+style_sizes p GroupSizes.Locale GroupingStrategy.Always own =
     record own { primary = if p.primary == 0 then 3 else p.primary; secondary = p.secondary }
-style_sizes p other own = record own { primary = p.primary; secondary = p.secondary }
+style_sizes p GroupSizes.Locale other own = record own { primary = p.primary; secondary = p.secondary }
 
 -- the separators of money, or else those of other numbers
 abbrev pub with_separators : Symbols → CurrencyPattern → Symbols
@@ -93,7 +95,9 @@ pub record IsFormatterBy (own : Symbols) (system : List ℕ) (currency : Option 
   pub style_is :
       IsStyle o.style o.notation f.outer system own.sizes f.formats currency o.sign_display written f.style.currency
   pub symbols : f.style.symbols
-      ≡ record (with_separators own written) { sizes = style_sizes written.pattern o.grouping own.sizes }
+      ≡ record (with_separators own written) {
+        sizes = style_sizes written.pattern o.group_sizes o.grouping own.sizes;
+      }
   pub pattern : f.style.pattern ≡ written.pattern
   pub percent : f.style.percent.text.now ≡ percent_text o.style signs
   pub percent_kind_is : f.style.percent.kind ≡ percent_kind o.style
@@ -114,8 +118,9 @@ abbrev pub IsCurrencyBy : Option CurrencyId → Option LocalCurrency → Type 0
 IsCurrencyBy None currency = currency ≡ None
 IsCurrencyBy (Some id) currency = IsSomeAnd currency (IsCurrencyAt id)
 
--- the formatter that rows and options make
-pub record IsFormatterAt (ids : FormatterIds) (o : NumberOptions) (f : NumberFormatter) : Type 0 where
+-- the formatter that rows, texts around the whole text and options make
+pub record IsFormatterWith (ids : FormatterIds) (texts : OuterTexts) (o : NumberOptions) (f : NumberFormatter)
+    : Type 0 where
   pub own : Symbols
   pub system : List ℕ
   pub currency : Option LocalCurrency
@@ -124,7 +129,14 @@ pub record IsFormatterAt (ids : FormatterIds) (o : NumberOptions) (f : NumberFor
   pub currency_is : IsCurrencyBy ids.currency currency
   pub formats : f.formats ≡ ids.formats
   pub rules : f.rules ≡ ids.rules
-  pub made : IsFormatterBy own system currency ids.outer o f
+  pub made : IsFormatterBy own system currency texts o f
+
+-- that of one number, and that of ranges
+abbrev pub IsFormatterAt : FormatterIds → NumberOptions → NumberFormatter → Type 0
+IsFormatterAt ids o = IsFormatterWith ids (outer_alone o.style o.notation ids.outer) o
+
+abbrev pub IsRangeFormatterAt : FormatterIds → NumberOptions → NumberFormatter → Type 0
+IsRangeFormatterAt ids = IsFormatterWith ids ids.outer
 
 -- a table has no such row
 abbrev pub LacksRows : FormatterIds → Type 0
@@ -154,13 +166,6 @@ pub record AreIdsOf (tag : List ℕ) (o : NumberOptions) (ids : FormatterIds) : 
   pub currency : IsCurrencyRow tag o.style ids.currency
   pub outer : AreOuterTexts tag o.style o.notation ids.outer
 
--- those for ranges: what is around the whole text may be another
-pub record AreRangeIdsOf (tag : List ℕ) (o : NumberOptions) (ids : FormatterIds) : Type 0 where
-  pub single : FormatterIds
-  pub single_are : AreIdsOf tag o single
-  pub others : ids ≡ record single { outer = ids.outer }
-  pub outer : AreOuterTextsOfRanges tag o.style o.notation ids.outer
-
 -- ---- The formatter of a tag.
 
 -- the formatter of the rows of a known tag
@@ -169,11 +174,11 @@ pub record IsFormatter (tag : List ℕ) (o : NumberOptions) (f : NumberFormatter
   pub ids_are : AreIdsOf tag o ids
   pub at : IsFormatterAt ids o f
 
--- that for ranges
+-- that of ranges
 pub record IsRangeFormatter (tag : List ℕ) (o : NumberOptions) (f : NumberFormatter) : Type 0 where
   pub ids : FormatterIds
-  pub ids_are : AreRangeIdsOf tag o ids
-  pub at : IsFormatterAt ids o f
+  pub ids_are : AreIdsOf tag o ids
+  pub at : IsRangeFormatterAt ids o f
 
 -- the tag is unknown, or has no plural rules, which each listed locale has; or the tag is known, and the numbering
 -- system of the options is not listed
@@ -192,6 +197,7 @@ plain_options grouping system = record {
   digits = None;
   sign_display = SignDisplay.Auto;
   grouping = grouping;
+  group_sizes = GroupSizes.Locale;
   decimal_separator = DecimalSeparatorDisplay.Auto;
   numbering_system = system;
 }

@@ -83,17 +83,18 @@ AreNameTexts false tag code texts = texts ≡ OuterTexts.None
 AreNameTexts true tag code texts =
     (names : CurrencyNames) × AreNamesOf tag code names × (texts ≡ OuterTexts.Names names)
 
--- what is around the whole text in the locale of a tag
+-- what is around the whole text in the locale of a tag; the unit `percent` alone has nothing, but `1–2%/h` has `%/h`
 abbrev pub AreOuterTexts : List ℕ → NumberStyle → NumberNotation → OuterTexts → Type 0
-AreOuterTexts tag (NumberStyle.Unit u) notation = AreUnitTexts (is_percentage u notation) tag u
+AreOuterTexts tag (NumberStyle.Unit u) notation =
+    AreUnitTexts (not (is_some u.unit.per) && is_percentage u notation) tag u
 AreOuterTexts tag (NumberStyle.Currency c) notation = AreNameTexts (shows_name c.display) tag c.code
 AreOuterTexts tag other notation = λ texts. texts ≡ OuterTexts.None
 
--- the same for ranges, in which percent before another unit is no percentage: `1–2%/h`, but `1%`
-abbrev pub AreOuterTextsOfRanges : List ℕ → NumberStyle → NumberNotation → OuterTexts → Type 0
-AreOuterTextsOfRanges tag (NumberStyle.Unit u) notation =
-    AreUnitTexts (not (is_some u.unit.per) && is_percentage u notation) tag u
-AreOuterTextsOfRanges tag other notation = AreOuterTexts tag other notation
+-- what of it is around one number: in percent before another unit nothing, so that it is `1%`
+abbrev pub outer_alone : NumberStyle → NumberNotation → OuterTexts → OuterTexts
+outer_alone (NumberStyle.Unit u) notation texts =
+    if is_some u.unit.per && is_percentage u notation then OuterTexts.None else texts
+outer_alone other notation texts = texts
 
 -- only units and currencies have texts around the whole text
 abbrev pub outer_for : NumberStyle → OuterTexts → OuterTexts

@@ -1,6 +1,6 @@
 -- The text of a number: what a formatter writes.
-use Rattle.std.specs.{Prelude.{◌≡◌, ◌≢◌, ℕ, ◌==◌, min, Bool, true, false, not, ◌&&◌, if◌then◌else◌, ◌⊎◌, IsSome, IsSomeAnd, List, [], ◌∷◌, ◌++◌, Option, Some, None, option_and_then, slice_get, unsigned_abs, ℤ, pos, negsuc, ◌+ℤ◌, ◌-ℤ◌, int_lt}, Int.{int_max, int_min}, Option.option_map_or}
-use Rattle.decimal_digits.specs.Number.{first}
+use Rattle.std.specs.{Prelude.{◌≡◌, ◌≢◌, ℕ, ◌==◌, min, Bool, true, false, not, ◌&&◌, ◌||◌, if◌then◌else◌, ◌⊎◌, IsSome, IsSomeAnd, List, [], ◌∷◌, ◌++◌, Option, Some, None, option_and_then, slice_get, unsigned_abs, ℤ, pos, negsuc, ◌+ℤ◌, ◌-ℤ◌, int_lt}, Int.{int_max, int_min}, Option.option_map_or, Ordering.int_eq}
+use Rattle.decimal_digits.specs.Number.{first, digit}
 use Rattle.decimal_unsigned.specs.{Unsigned.{Unsigned, integer_value}, Edits.{multiplied_pow10, padded_start}, declared.decimal.TheConstants.INLINE_DIGITS}
 use Rattle.fixed_decimal.specs.{Decimal.{Decimal, with_absolute, displayed_sign}, DecimalText.IsLong, declared.variations.Sign.Sign}
 use Rattle.decimal_format.specs.{Symbols.Symbols, declared.grouping.GroupingStrategy.TheVariants.Never}
@@ -10,7 +10,7 @@ use Rattle.locale_names.specs.{declared.tables.rows.currencies.NamePattern.NameP
 use Rattle.locale_names.specs.LocaleUnits as units
 use Rattle.locale_data.specs.Compact as compact
 use Rattle.locale_data.specs.{declared.{compact.CompactStyle.CompactStyle, tables.{rows.{compact.{AffixText.AffixText, CompactForm.CompactForm, CompactPattern.CompactPattern, PercentUnit.PercentUnit}, TableRange.TableRange}, compact.TheConstants.PERCENT_UNITS}, number_formats.NumberFormats.NumberFormats}, Compact.{text_of, compact_patterns, unit_for}, Plurals.IsCategoryAt}
-use Rattle.number_format.specs.{declared.{digits.options.DigitOptions.DigitOptions, notation.Notation.Notation, format.{affixes.{NumberAffixes.NumberAffixes, StyleTexts.StyleTexts}, outer.OuterTexts.OuterTexts, formatter.NumberFormatter.NumberFormatter, text_part.PartKind.PartKind}, options.{CompactLength.CompactLength, DecimalSeparatorDisplay.DecimalSeparatorDisplay, ExponentOptions.ExponentOptions, ExponentSign.ExponentSign, NumberNotation.NumberNotation, NumberStyle.NumberStyle}}, NumberStyles.{currency_text, shows_name}, PatternTexts.{Around, around, within, sign_text, sign_pieces, space_if, pattern_around}, ShownDigits.rounded_whole, TextParts.{pieces_text, pieces_of, parts_pieces, digit_pieces}, Scaled.{ScaledValue, scaled_value, scaled, raised, rounded_number, exponent_at, ScalingNeedsMemory}}
+use Rattle.number_format.specs.{declared.{digits.{options.DigitOptions.DigitOptions, precision.Precision.Precision}, notation.Notation.Notation, format.{affixes.{NumberAffixes.NumberAffixes, StyleTexts.StyleTexts}, outer.OuterTexts.OuterTexts, formatter.NumberFormatter.NumberFormatter, text_part.PartKind.PartKind}, options.{CompactLength.CompactLength, DecimalSeparatorDisplay.DecimalSeparatorDisplay, ExponentOptions.ExponentOptions, ExponentSign.ExponentSign, NumberNotation.NumberNotation, NumberStyle.NumberStyle}}, NumberStyles.{currency_text, shows_name}, PatternTexts.{Around, around, within, sign_text, sign_pieces, space_if, pattern_around}, ShownDigits.rounded_whole, TextParts.{pieces_text, pieces_of, parts_pieces, digit_pieces}, Scaled.{ScaledValue, scaled_value, scaled, raised, rounded_number, exponent_at, ScalingNeedsMemory}}
 use Rattle.number_format.specs.ShownDigits as shown_digits
 use Rattle.number_format.specs.TextParts as parts
 
@@ -131,7 +131,37 @@ exponent_pieces f None = []
 exponent_pieces f (Some e) =
     pieces_of PartKind.ExponentSeparator f.separator.text.now
     ++ (pieces_of (exponent_kind e.sign) (sign_text f.style.symbols e.sign)
-    ++ digit_pieces PartKind.ExponentInteger f.style.symbols Never e.absolute)
+    ++ digit_pieces false PartKind.ExponentInteger f.style.symbols Never e.absolute)
+
+-- the decimal separator is always written
+abbrev pub is_always : DecimalSeparatorDisplay → Bool
+is_always DecimalSeparatorDisplay.Always = true
+is_always DecimalSeparatorDisplay.Auto = false
+
+abbrev pub is_significant : Precision → Bool
+is_significant (Precision.Significant s) = true
+is_significant other = false
+
+-- the integer part is 0, shown as one digit
+abbrev pub has_no_integer : Unsigned → Bool
+has_no_integer v = int_eq v.hi (pos 0) && (digit v.number (pos 0) == 0)
+
+-- no integer digit has to be shown
+abbrev pub needs_no_integer : Option DigitOptions → Bool
+needs_no_integer None = false
+needs_no_integer (Some o) = o.integer.min == 0
+
+-- zero is shown by significant digits, of which its integer digit is one
+abbrev pub is_significant_zero : Option DigitOptions → ℕ → Bool
+is_significant_zero None n = false
+is_significant_zero (Some o) n = is_significant o.precision && (n == 0)
+
+-- a number begins with the decimal separator: `.5`. No integer digit has to be shown, the only one is 0, and fraction
+-- digits or the separator follow it
+abbrev pub hides_zero : Option DigitOptions → DecimalSeparatorDisplay → Unsigned → Bool
+hides_zero digits display v =
+    needs_no_integer digits && (has_no_integer v && ((int_lt v.lo (pos 0) || is_always display)
+    && not (is_significant_zero digits v.number)))
 
 -- the decimal separator of a number without fraction digits, if it is always written
 abbrev pub bare_separator : DecimalSeparatorDisplay → Symbols → Unsigned → List ℕ
@@ -139,14 +169,15 @@ bare_separator DecimalSeparatorDisplay.Auto s v = []
 bare_separator DecimalSeparatorDisplay.Always s v = if int_lt v.lo (pos 0) then [] else s.decimal
 
 -- the digits of a significand, with that separator
-abbrev pub significand_pieces : NumberFormatter → DecimalSeparatorDisplay → Unsigned → List parts.Piece
-significand_pieces f display v =
-    digit_pieces PartKind.Integer f.style.symbols f.options.grouping v
+abbrev pub significand_pieces :
+    NumberFormatter → Option DigitOptions → DecimalSeparatorDisplay → Unsigned → List parts.Piece
+significand_pieces f digits display v =
+    digit_pieces (hides_zero digits display v) PartKind.Integer f.style.symbols f.options.grouping v
     ++ pieces_of PartKind.Decimal (bare_separator display f.style.symbols v)
 
 -- the digits of a significand and of an exponent, if there is one
 abbrev pub number_part : NumberFormatter → Unsigned → Option Decimal → List parts.Piece
-number_part f v e = significand_pieces f f.options.decimal_separator v ++ exponent_pieces f e
+number_part f v e = significand_pieces f f.digits f.options.decimal_separator v ++ exponent_pieces f e
 
 -- ---- Compact notation.
 

@@ -1,14 +1,15 @@
 -- The text of a range of two numbers, as `1–2 days`: that of ECMA-402's formatRange. Which texts both numbers have in
 -- common ECMA-402 leaves open, and it is as ICU has it.
-use Rattle.std.specs.{Prelude.{◌≡◌, ℕ, ◌+◌, ◌/◌, ◌==◌, nat_lt, Bool, true, false, not, ◌||◌, ◌&&◌, if◌then◌else◌, List, [], ◌∷◌, ◌++◌, count_by, Option, Some, None, ℤ, pos}, Str.bytes_eq, Ordering.int_eq}
-use Rattle.decimal_unsigned.specs.Unsigned.{Unsigned, same}
-use Rattle.fixed_decimal.specs.{Decimal.{Decimal, signed_number}, declared.variations.Sign.Sign}
+use Rattle.std.specs.{Prelude.{◌≡◌, ℕ, ◌+◌, ◌/◌, ◌==◌, nat_lt, Bool, true, false, not, ◌||◌, ◌&&◌, if◌then◌else◌, ◌⊎◌, IsSome, List, [], ◌∷◌, ◌++◌, count_by, Option, Some, None, ℤ, pos}, Str.bytes_eq, Ordering.int_eq}
+use Rattle.decimal_digits.specs.declared.rounding.RoundError.{RoundError}
+use Rattle.decimal_unsigned.specs.{Unsigned.{Unsigned, same}, declared.decimal.TheConstants.INLINE_DIGITS}
+use Rattle.fixed_decimal.specs.{Decimal.{Decimal, signed_number}, DecimalText.IsLong, declared.variations.Sign.Sign}
 use Rattle.decimal_format.specs.Symbols.{affixes}
 use Rattle.plural_rules.specs.Operands as operands
 use Rattle.plural_rules.specs.declared.rules.PluralCategory.{PluralCategory}
-use Rattle.locale_data.specs.{declared.tables.rows.{compact.{AffixText.AffixText, CompactForm.{CompactForm, TheVariants.SignLast}, CompactPattern.CompactPattern}, patterns.{AffixPair.AffixPair, Pattern.Pattern, Piece.Piece}, ranges.{ApproximatelySign.ApproximatelySign, RangeFormat.RangeFormat, RangeSeparator.{RangeSeparator, TheVariants.{SpacedHyphen, SpacedEnDash}}}}, Patterns.affixes_of, PluralRanges.plural_range_category, Plurals.IsCategoryAt}
+use Rattle.locale_data.specs.{declared.tables.rows.{compact.{CompactForm.{CompactForm, TheVariants.SignLast}, CompactPattern.CompactPattern}, patterns.{AffixPair.AffixPair, Pattern.Pattern, Piece.Piece}, ranges.{ApproximatelySign.ApproximatelySign, RangeFormat.RangeFormat, RangeSeparator.{RangeSeparator, TheVariants.{SpacedHyphen, SpacedEnDash}}}}, Patterns.affixes_of, PluralRanges.plural_range_category, Plurals.IsCategoryAt}
 use Rattle.locale_data.specs.RangeFormats as range_texts
-use Rattle.number_format.specs.{declared.{format.{affixes.StyleTexts.StyleTexts, formatter.NumberFormatter.NumberFormatter, text_part.PartKind.PartKind}, options.NumberNotation.NumberNotation, range.{common.BareTexts.BareTexts, form.RangeForm.{RangeForm, TheVariants.{Approximate, Common, Apart}}, range_texts.RangeTexts.RangeTexts}}, NumberStyles.{begins_with_currency, ends_with_currency}, NumberText.{around_by, compact_magnitude, compact_pattern, compact_pieces, compact_prefix, compact_style, compact_suffix, currency_if, exponent_of, first_sign, has_number, is_negative, is_one, is_plain, last_sign, number_part, outer_by, outer_operands, shown_number, shown_sign}, PatternTexts.{Around, around, affix_pieces, literal, pattern_pieces, sign_pieces, space_if, within}, Scaled.ScaledValue, TextParts.{pieces_of, pieces_text}}
+use Rattle.number_format.specs.{declared.{format.{affixes.StyleTexts.StyleTexts, formatter.NumberFormatter.NumberFormatter, text_part.PartKind.PartKind}, options.NumberNotation.NumberNotation, range.{common.BareTexts.BareTexts, form.RangeForm.{RangeForm, TheVariants.{Approximate, Common, Apart}}, range_texts.RangeTexts.RangeTexts}}, NumberStyles.{begins_with_currency, ends_with_currency}, NumberText.{around_by, compact_magnitude, compact_pattern, compact_prefix, compact_style, compact_suffix, exponent_of, has_number, is_negative, is_one, is_plain, number_part, outer_by, outer_operands, shown_number, shown_sign, FormattingNeedsMemory}, PatternTexts.{Around, around, affix_pieces, literal, pattern_pieces, sign_pieces, space_if, within}, Scaled.ScaledValue, TextParts.{pieces_of, pieces_text}}
 use Rattle.number_format.specs.TextParts as parts
 
 -- ---- The ends.
@@ -52,26 +53,9 @@ end_around n = around_by n.formatter.style n.sign n.pattern
 
 -- ---- What the ends have in common.
 
--- a prefix or a suffix of a compact pattern, without the space of a currency
-abbrev pub bare_words : StyleTexts → AffixText → List parts.Piece
-bare_words t a = compact_pieces a.before ++ (currency_if t a.has_currency ++ compact_pieces a.after)
-
--- the affixes of a sign by the pattern of a style, without the space of a currency
-abbrev pub bare_pattern : StyleTexts → Sign → Around
-bare_pattern t s =
-    let pieces = affix_pieces (pattern_pieces t) in
-    around (pieces (affixes_of t.pattern s).prefix) true (pieces (affixes_of t.pattern s).suffix)
-
--- the affixes of a sign by a compact pattern, without the space of a currency
-abbrev pub bare_compact : StyleTexts → Sign → CompactPattern → Around
-bare_compact t s p =
-    around (first_sign t s p.form ++ (bare_words t p.prefix ++ last_sign t s p.form)) (has_number p.form)
-    (bare_words t p.suffix)
-
--- what is around a number, without the spaces between a currency and a digit
-abbrev pub bare_around : StyleTexts → Sign → Option CompactPattern → Around
-bare_around t s None = bare_pattern t s
-bare_around t s (Some p) = if is_plain p.form then bare_pattern t s else bare_compact t s p
+-- a style without the spaces between a currency and a digit
+abbrev pub without_spaces : StyleTexts → StyleTexts
+without_spaces t = record t { currency = record t.currency { space_before = false; space_after = false } }
 
 -- the texts of what is around a number
 abbrev pub texts_of : Around → BareTexts
@@ -80,13 +64,13 @@ texts_of a =
 
 -- the texts around an end, without the spaces between a currency and a digit
 abbrev pub bare_texts : RangeEnd → BareTexts
-bare_texts n = texts_of (bare_around n.formatter.style n.sign n.pattern)
+bare_texts n = texts_of (around_by (without_spaces n.formatter.style) n.sign n.pattern)
 
 -- two facts hold both or not at all
 abbrev pub both_or_neither : Bool → Bool → Bool
 both_or_neither a b = if a then b else not b
 
--- the prefixes are equal, the suffixes are equal, and both stand around a number or both instead of one
+-- the prefixes are equal, the suffixes are equal, and a number is between both, or between neither
 abbrev pub are_same_texts : BareTexts → BareTexts → Bool
 are_same_texts a b =
     bytes_eq a.affixes.prefix b.affixes.prefix
@@ -190,20 +174,21 @@ approximate_pattern t a s =
     around (pieces prefix ++ space_if (ends_with_currency prefix && t.currency.space_after)) true
     (space_if (begins_with_currency suffix && t.currency.space_before) ++ pieces suffix)
 
--- the approximately sign and the sign before the prefix, unless the sign is last
-abbrev pub approximate_first : StyleTexts → ApproximatelySign → Sign → CompactForm → List parts.Piece
-approximate_first t a s SignLast = []
-approximate_first t a s other = approximately_pieces a ++ sign_pieces t.symbols s
+-- the pieces if a fact holds, and else none
+abbrev pub pieces_if : Bool → List parts.Piece → List parts.Piece
+pieces_if b pieces = if b then pieces else []
 
--- the approximately sign and the sign after the prefix, if the sign is last
-abbrev pub approximate_last : StyleTexts → ApproximatelySign → Sign → CompactForm → List parts.Piece
-approximate_last t a s SignLast = approximately_pieces a ++ sign_pieces t.symbols s
-approximate_last t a s other = []
+-- the sign is after the prefix
+abbrev pub is_sign_last : CompactForm → Bool
+is_sign_last SignLast = true
+is_sign_last other = false
 
--- what is around a number by a compact pattern, with an approximately sign
+-- what is around a number by a compact pattern, with an approximately sign before the sign
 abbrev pub approximate_compact : StyleTexts → ApproximatelySign → Sign → CompactPattern → Around
 approximate_compact t a s p =
-    around (approximate_first t a s p.form ++ (compact_prefix t p.prefix ++ approximate_last t a s p.form))
+    let signs = approximately_pieces a ++ sign_pieces t.symbols s in
+    around (pieces_if (not (is_sign_last p.form)) signs
+    ++ (compact_prefix t p.prefix ++ pieces_if (is_sign_last p.form) signs))
     (has_number p.form) (compact_suffix t p.suffix)
 
 -- what is around a number, with an approximately sign
@@ -216,12 +201,10 @@ approximate_around t a s (Some p) = if is_plain p.form then approximate_pattern 
 -- the pieces of a range, one after another
 pub record RangePieces : Type 0 where
   pub prefix : List parts.Piece
-  pub outer_prefix : List parts.Piece
   pub start : List parts.Piece
   pub middle : List parts.Piece
   pub end : List parts.Piece
   pub suffix : List parts.Piece
-  pub outer_suffix : List parts.Piece
 
 -- a range as it is shown; the category is that of what is around the whole text
 pub record ShownRange : Type 0 where
@@ -232,44 +215,34 @@ pub record ShownRange : Type 0 where
   pub spaced : Bool
   pub category : PluralCategory
 
--- the pieces if a fact holds, and else none
-abbrev pub pieces_if : Bool → List parts.Piece → List parts.Piece
-pieces_if b pieces = if b then pieces else []
-
 -- one number, which is of neither end alone
 abbrev pub approximate_pieces : Around → Around → List parts.Piece → RangePieces
 approximate_pieces u a number = record {
-  prefix = [];
-  outer_prefix = u.prefix;
+  prefix = u.prefix;
   start = [];
   middle = pieces_if u.has_number (within a number);
   end = [];
-  suffix = [];
-  outer_suffix = u.suffix;
+  suffix = u.suffix;
 }
 
 -- two numbers between affixes; what is around the whole text begins after the prefix
 abbrev pub common_pieces : Around → Around → List parts.Piece → List parts.Piece → List parts.Piece → RangePieces
 common_pieces u a start separator end = record {
-  prefix = a.prefix;
-  outer_prefix = u.prefix;
+  prefix = a.prefix ++ u.prefix;
   start = pieces_if (u.has_number && a.has_number) start;
   middle = pieces_if (u.has_number && a.has_number) separator;
   end = pieces_if (u.has_number && a.has_number) end;
-  suffix = pieces_if u.has_number a.suffix;
-  outer_suffix = u.suffix;
+  suffix = pieces_if u.has_number a.suffix ++ u.suffix;
 }
 
 -- two numbers with affixes of their own
 abbrev pub apart_pieces : Around → List parts.Piece → List parts.Piece → List parts.Piece → RangePieces
 apart_pieces u start separator end = record {
-  prefix = [];
-  outer_prefix = u.prefix;
+  prefix = u.prefix;
   start = pieces_if u.has_number start;
   middle = pieces_if u.has_number separator;
   end = pieces_if u.has_number end;
-  suffix = [];
-  outer_suffix = u.suffix;
+  suffix = u.suffix;
 }
 
 -- the pieces of a range in a form
@@ -293,9 +266,7 @@ range_pieces r = pieces_by r.form r
 abbrev pub text_of_pieces : RangePieces → List ℕ
 text_of_pieces p =
     pieces_text p.prefix
-    ++ (pieces_text p.outer_prefix
-    ++ (pieces_text p.start
-    ++ (pieces_text p.middle ++ (pieces_text p.end ++ (pieces_text p.suffix ++ pieces_text p.outer_suffix)))))
+    ++ (pieces_text p.start ++ (pieces_text p.middle ++ (pieces_text p.end ++ pieces_text p.suffix)))
 
 -- the plural category of an approximate number is its own, and that of two numbers is the one that the language has for
 -- a range of their categories
@@ -327,3 +298,13 @@ pub record IsRange (f : NumberFormatter) (t : RangeTexts) (v w : Decimal) (r : S
 -- the text of the range of two numbers
 abbrev pub IsRangeText : NumberFormatter → RangeTexts → Decimal → Decimal → List ℕ → Type 0
 IsRangeText f t v w text = (r : ShownRange) × IsRange f t v w r × (text ≡ text_of_pieces (range_pieces r))
+
+-- ---- Errors.
+
+-- why the range of two numbers is not formatted, by an error of the start or of the end: the number is shown beyond the
+-- limits; or it needs memory, or a copy of the start does. By an error of the end the start is within the limits
+abbrev pub RangeFormattingFails : NumberFormatter → Decimal → Decimal → Bool → RoundError → Type 0
+RangeFormattingFails f v w false RoundError.Limit = shown_number f v ≡ None
+RangeFormattingFails f v w false RoundError.Memory = IsLong INLINE_DIGITS v ⊎ FormattingNeedsMemory f v
+RangeFormattingFails f v w true RoundError.Limit = IsSome (shown_number f v) × (shown_number f w ≡ None)
+RangeFormattingFails f v w true RoundError.Memory = IsSome (shown_number f v) × FormattingNeedsMemory f w

@@ -1,7 +1,7 @@
 -- The digits that ECMA-402's FormatNumericToString shows of a number that is written with an exponent: of its quotient
 -- by 10^exponent. Numbers are in units of 10^-32768; magnitudes are those of the quotient. The weight of a magnitude
 -- below -32768 is 1 unit: at such a position nothing is rounded.
-use Rattle.std.specs.{Prelude.{◌≡◌, ℕ, ◌*◌, ◌%◌, ◌^◌, ◌<◌, Bool, true, false, not, ◌||◌, if◌then◌else◌, Option, Some, None, ℤ, pos, ◌+ℤ◌, ◌-ℤ◌, ◌≤ℤ◌, int_lt, int_le}, Int.{int_max, int_min}, Option.option_map_or}
+use Rattle.std.specs.{Prelude.{◌≡◌, ℕ, ◌*◌, ◌%◌, ◌^◌, ◌<◌, max, Bool, true, false, not, ◌||◌, if◌then◌else◌, Option, Some, None, ℤ, pos, ◌+ℤ◌, ◌-ℤ◌, ◌≤ℤ◌, int_lt, int_le}, Int.{int_max, int_min}, Option.option_map_or}
 use Rattle.decimal_digits.specs.{Number.{number_limit, weight, first, last, size, lowest_magnitude, highest_magnitude}, Rounding.{step_of, unit_at, rounded_number, DigitRoundingNeedsMemory}, declared.rounding.{RoundError.{RoundError, TheVariants.{Limit, Memory}}, RoundingIncrement.{RoundingIncrement, TheVariants.MultiplesOf1}, UnsignedRoundingMode.UnsignedRoundingMode}}
 use Rattle.decimal_unsigned.specs.{Unsigned.Unsigned, Edits.trimmed_end_if_integer, Rounded.reaches_limit}
 use Rattle.fixed_decimal.specs.{Decimal.{Decimal, signed_number}, SignedRounding.{mode_at, NamedSigned}, declared.variations.Sign.Sign}
@@ -82,7 +82,7 @@ padded o rounded end =
     let number = rounded % weight (pos o.integer.max) in
     record {
       number = number;
-      hi = int_max (pos o.integer.min -ℤ pos 1) (first number);
+      hi = int_max (pos (max o.integer.min 1) -ℤ pos 1) (first number);
       lo = int_min (int_min (int_max end lowest_magnitude) (pos 0)) (last number);
     }
 

@@ -66,19 +66,29 @@ abbrev pub digit_kind : PartKind → ℤ → PartKind
 digit_kind whole (pos k) = whole
 digit_kind whole (negsuc k) = PartKind.Fraction
 
+-- the digit of a magnitude is shown: integer digits may be hidden
+abbrev pub is_shown : Bool → ℤ → Bool
+is_shown false m = true
+is_shown true (pos k) = false
+is_shown true (negsuc k) = true
+
+-- the digit of a magnitude, if it is shown
+abbrev pub digit_if : Bool → Symbols → ℕ → ℤ → List ℕ
+digit_if hidden s n m = if is_shown hidden m then digit_text s (digit n m) else []
+
 -- the digit of a magnitude, between the separators beside it
-abbrev pub magnitude_pieces : PartKind → Symbols → GroupingStrategy → Unsigned → ℤ → List Piece
-magnitude_pieces whole s strategy v m =
+abbrev pub magnitude_pieces : Bool → PartKind → Symbols → GroupingStrategy → Unsigned → ℤ → List Piece
+magnitude_pieces hidden whole s strategy v m =
     pieces_of PartKind.Decimal (separator_before s m)
-    ++ (pieces_of (digit_kind whole m) (digit_text s (digit v.number m))
+    ++ (pieces_of (digit_kind whole m) (digit_if hidden s v.number m)
     ++ pieces_of PartKind.Group (separator_after s strategy v.hi m))
 
 -- the given number of magnitudes from the highest
-unfoldable pub first_pieces : PartKind → Symbols → GroupingStrategy → Unsigned → ℕ → List Piece
-first_pieces whole s strategy v zero = []
-first_pieces whole s strategy v (suc n) =
-    first_pieces whole s strategy v n ++ magnitude_pieces whole s strategy v (v.hi -ℤ pos n)
+unfoldable pub first_pieces : Bool → PartKind → Symbols → GroupingStrategy → Unsigned → ℕ → List Piece
+first_pieces hidden whole s strategy v zero = []
+first_pieces hidden whole s strategy v (suc n) =
+    first_pieces hidden whole s strategy v n ++ magnitude_pieces hidden whole s strategy v (v.hi -ℤ pos n)
 
--- the digits and the separators of a value
-abbrev pub digit_pieces : PartKind → Symbols → GroupingStrategy → Unsigned → List Piece
-digit_pieces whole s strategy v = first_pieces whole s strategy v (shown_count v)
+-- the digits and the separators of a value; its integer digits may be hidden: `.5` of 0.5
+abbrev pub digit_pieces : Bool → PartKind → Symbols → GroupingStrategy → Unsigned → List Piece
+digit_pieces hidden whole s strategy v = first_pieces hidden whole s strategy v (shown_count v)

@@ -8,6 +8,7 @@ pub(crate) mod format_number;
 pub(crate) mod formatted_number;
 pub(crate) mod formatter;
 mod formatter_options;
+pub(crate) mod fraction;
 pub(crate) mod ids;
 pub(crate) mod outer;
 pub(crate) mod parts;

@@ -1,9 +1,9 @@
 //! Laws of digit options, of notations and of texts: the contract of each function states a law.
-ghost use Rattle.std.specs.{Prelude.{◌≡◌, ◌≢◌, ◌*◌, ◌^◌, ◌<◌, ◌≤◌, ◌⊎◌, ℕ, ℤ, List, [], Option, Some, suc, pos, negsuc, unsigned_abs, Result, Ok, Err, MatchResult}, List.Contains};
+ghost use Rattle.std.specs.{Prelude.{◌≡◌, ◌≢◌, ◌*◌, ◌^◌, ◌<◌, ◌≤◌, ◌⊎◌, ℕ, ℤ, List, [], Option, Some, false, suc, pos, negsuc, unsigned_abs, Result, Ok, Err, MatchResult}, List.Contains};
 ghost use Rattle.decimal_unsigned.specs.Unsigned.{Unsigned, IsValue};
 ghost use Rattle.fixed_decimal.specs.Decimal.{Decimal, with_sign_display};
 ghost use Rattle.decimal_format.specs.{Formatted.formatted, Readable.IsReadable, Symbols.{Symbols, sign_affixes}};
-ghost use Rattle.number_format.specs.{declared.read.{pattern.NumberPattern.NumberPattern, scientific.ExponentForm.ExponentForm}, FormattedNumbers.number_text, AffixedTexts.{Reader, AreNamed, between, IsWritten, IsShown, shifted, IsReadExactly}, Formatters.{plain_options, IsFormatterBy, IsFormatterAt, IsFormatter}, CompactReading.IsReadInWords, NumberReading.{IsStandard, words_of, reader_of, CanRead, IsShownAs}, NumberText.IsNumberText, ScientificReading.{CanReadExponent, exponent_form, HasExponentOf, notation_of, scientific_text, IsReadScientific}, AffixedExponents.IsReadWithExponent, ShownDigits.{rounded_with, applied, IsFractional, KeepsDigits}, Scaled.{KeepsExponent, KeepsValueOf}};
+ghost use Rattle.number_format.specs.{declared.read.{pattern.NumberPattern.NumberPattern, scientific.ExponentForm.ExponentForm}, FormattedNumbers.{hides_zero_of, number_text}, AffixedTexts.{Reader, AreNamed, between, IsWritten, IsShown, shifted, IsReadExactly}, Formatters.{plain_options, IsFormatterBy, IsFormatterAt, IsFormatter}, CompactReading.IsReadInWords, NumberReading.{IsStandard, words_of, reader_of, CanRead, IsShownAs}, NumberText.IsNumberText, ScientificReading.{CanReadExponent, exponent_form, HasExponentOf, notation_of, scientific_text, IsReadScientific}, AffixedExponents.IsReadWithExponent, ShownDigits.{rounded_with, applied, IsFractional, KeepsDigits}, Scaled.{KeepsExponent, KeepsValueOf}};
 
 use crate::digits::options::DigitOptions;
 use crate::digits::ranges::FractionDigits;
@@ -170,11 +170,11 @@ pub fn formatted_words_are_unique()
 {}
 
 /// The digits and the exponent that a formatter writes are a text by its form of exponents. This holds if no decimal
-/// separator is written after an integer.
+/// separator is written after an integer, and an integer digit is written.
 pub fn exponents_are_written_by_their_form()
     ensures { (n : FormattedNumber) (f : ExponentForm)
         → exponent_form n.formatter.now n.formatter.now.options.notation ≡ Some f
-        → n.formatter.now.options.decimal_separator ≡ DecimalSeparatorDisplay.Auto
+        → n.formatter.now.options.decimal_separator ≡ DecimalSeparatorDisplay.Auto → hides_zero_of n ≡ false
         → number_text n ≡ scientific_text n.formatter.now.style.symbols f n.formatter.now.options.grouping
         n.value.absolute n.exponent }
 {}

@@ -47,7 +47,8 @@ pub use notation::scale::Scaled;
 pub use notation::{CompactExponents, Notation};
 pub use options::{
     CompactLength, CurrencyDisplay, CurrencyStyle, CurrencyUsage, DecimalSeparatorDisplay,
-    ExponentOptions, ExponentSign, NumberNotation, NumberOptions, NumberStyle, UnitStyle,
+    ExponentOptions, ExponentSign, GroupSizes, NumberNotation, NumberOptions, NumberStyle,
+    UnitStyle,
 };
 pub use range::format_range::RangeFormatError;
 pub use range::formatted_range::{FormattedRange, RangeSegment, RangeSource};

@@ -88,6 +88,16 @@ pub enum DecimalSeparatorDisplay {
     Always,
 }
 
+/// Which groups of integer digits are separated.
+#[derive(Clone, Copy, Debug, Default, PartialEq)]
+pub enum GroupSizes {
+    /// Those of the locale: in `en-IN` `12,34,567`.
+    #[default]
+    Locale,
+    /// Groups of three digits in each locale: `1,234,567`.
+    Thousands,
+}
+
 /// Which sign an exponent has.
 #[derive(Clone, Copy, Debug, Default, PartialEq)]
 pub enum ExponentSign {
@@ -149,6 +159,8 @@ pub struct NumberOptions {
     /// Where groups are separated: by default as [`NumberNotation::default_grouping`] has it. In compact notation node
     /// takes `Auto` for `Min2`, and ECMA-402 does not.
     pub grouping: GroupingStrategy,
+    /// Which groups are separated.
+    pub group_sizes: GroupSizes,
     /// Where the decimal separator is written.
     pub decimal_separator: DecimalSeparatorDisplay,
     /// The numbering system. `None`: that of the locale.

@@ -34,7 +34,7 @@ has c Usage = is_some c.usage
 has c (Precision _) = is_some c.precision
 has c StripIfInteger = false
 has c (Mode _) = is_some c.mode
-has c (Grouping _) = is_some c.grouping
+has c (Grouping _ _) = is_some c.grouping
 has c (Integer _) = is_some c.integer
 has c (System _) = is_some c.system
 has c (Width _) = is_some c.width
@@ -54,7 +54,7 @@ with stem Usage c = record c { usage = Some stem }
 with stem (Precision p) c = record c { precision = Some (p, stem) }
 with stem StripIfInteger c = record c { strips_if_integer = true }
 with stem (Mode m) c = record c { mode = Some (m, stem) }
-with stem (Grouping g) c = record c { grouping = Some (g, stem) }
+with stem (Grouping strategy sizes) c = record c { grouping = Some (strategy, sizes) }
 with stem (Integer i) c = record c { integer = Some (i, stem) }
 with stem (System s) c = record c { system = Some (s, stem) }
 with stem (Width w) c = record c { width = Some (w, stem) }

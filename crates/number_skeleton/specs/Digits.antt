@@ -45,7 +45,7 @@ significant_of c stem = counts_within 1 65536 stem (min c.min 65537) (min (unwra
 -- by 32,768 no digit is cut off
 abbrev pub integer_of : Option (Counts × Span) → Result (ℕ × ℕ) SkeletonError
 integer_of None = Ok (1, 32768)
-integer_of (Some (c, stem)) = counts_within 1 32767 stem (min c.min 65535) (min (unwrap_or c.max 32768) 32768)
+integer_of (Some (c, stem)) = counts_within 0 32767 stem (min c.min 65535) (min (unwrap_or c.max 32768) 32768)
 
 -- ---- Increments.
 -- the number of fraction digits of an increment as it is written

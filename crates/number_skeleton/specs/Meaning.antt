@@ -6,10 +6,11 @@ use Rattle.fixed_decimal.specs.declared.variations.SignDisplay.TheVariants as si
 use Rattle.locale_data.specs.{declared.currency.CurrencySign.CurrencySign, Codes.{code_of, system_name}, Rows.unpadded}
 use Rattle.locale_data.specs.declared.currency.CurrencySign.TheVariants as currency_sign
 use Rattle.locale_names.specs.{declared.locale_units.UnitDisplay.{UnitDisplay, TheVariants.{Long, Short, Narrow}}, Units.{Indices, indices_of}}
-use Rattle.number_format.specs.{declared.options.{CurrencyDisplay.CurrencyDisplay, CurrencyStyle.CurrencyStyle, CurrencyUsage.CurrencyUsage, DecimalSeparatorDisplay.DecimalSeparatorDisplay, NumberNotation.NumberNotation, NumberNotation.TheVariants.{Standard, Scientific, Engineering, Compact}, NumberOptions.NumberOptions, NumberStyle.NumberStyle}, DefaultOptions.default_grouping}
+use Rattle.number_format.specs.{declared.options.{CurrencyDisplay.CurrencyDisplay, CurrencyStyle.CurrencyStyle, CurrencyUsage.CurrencyUsage, DecimalSeparatorDisplay.DecimalSeparatorDisplay, GroupSizes.GroupSizes, NumberNotation.NumberNotation, NumberNotation.TheVariants.{Standard, Scientific, Engineering, Compact}, NumberOptions.NumberOptions, NumberStyle.NumberStyle}, DefaultOptions.default_grouping}
 use Rattle.number_format.specs.declared.options.CurrencyDisplay.TheVariants as display
 use Rattle.number_format.specs.declared.options.CurrencyUsage.TheVariants as usage
 use Rattle.number_format.specs.declared.options.DecimalSeparatorDisplay.TheVariants as separator
+use Rattle.number_format.specs.declared.options.GroupSizes.TheVariants as sizes
 use Rattle.number_format.specs.declared.options.NumberStyle.TheVariants as style
 use Rattle.number_skeleton.specs.{declared.{error.SkeletonError.SkeletonError, choices.{Choices.Choices, ChosenNotation.ChosenNotation, ChosenPerUnit.ChosenPerUnit, ChosenPrecision.ChosenPrecision, Exponent.Exponent, Span.Span, ChosenUnit.ChosenUnit}, decimal.Decimal.Decimal}, Digits.{unsupported, is_compact, DigitsValue, digits_value, digits_of}, Reading.{and_then, choices_of}, Units.{unit_at, index_named, is_two, joined}}
 use Rattle.number_skeleton.specs.declared.choices.ChosenNotation.TheVariants as chosen
@@ -189,11 +190,9 @@ abbrev pub scale_of : Option (Decimal × Span) → Result ℤ SkeletonError
 scale_of (Some (d, stem)) = scale_power d stem
 scale_of None = Ok (pos 0)
 
-abbrev pub grouping_of :
-    NumberNotation → Option (Option GroupingStrategy × Span) → Result GroupingStrategy SkeletonError
-grouping_of notation (Some (Some g, stem)) = Ok g
-grouping_of notation (Some (None, stem)) = Err (unsupported stem)
-grouping_of notation None = Ok (default_grouping notation)
+-- where groups are separated, and which: as a stem chooses, or else as the notation does by default
+abbrev pub groups_of : NumberNotation → Option (GroupingStrategy × GroupSizes) → GroupingStrategy × GroupSizes
+groups_of notation chosen = unwrap_or chosen (default_grouping notation, sizes.Locale)
 
 abbrev pub system_by : Span → Option (List ℕ) → Result (Option (List ℕ)) SkeletonError
 system_by stem (Some name) = Ok (Some name)
@@ -218,6 +217,7 @@ pub record OptionsValue : Type 0 where
   pub digits : Option DigitsValue
   pub sign_display : SignDisplay
   pub grouping : GroupingStrategy
+  pub group_sizes : GroupSizes
   pub decimal_separator : DecimalSeparatorDisplay
   pub numbering_system : Option (List ℕ)
 
@@ -229,6 +229,7 @@ options_value o = record {
   digits = option_map digits_value o.digits;
   sign_display = o.sign_display;
   grouping = o.grouping;
+  group_sizes = o.group_sizes;
   decimal_separator = o.decimal_separator;
   numbering_system = o.numbering_system;
 }
@@ -237,16 +238,17 @@ options_value o = record {
 unfoldable pub options_of : Choices → Result OptionsValue SkeletonError
 options_of c =
     and_then (λ _. and_then (λ style. and_then (λ scale. and_then (λ notation. and_then (λ digits.
-    and_then (λ grouping. and_then (λ system. Ok (record {
+    and_then (λ system. Ok (record {
       style = style;
       scale = scale;
       notation = notation;
       digits = Some digits;
       sign_display = sign_display_of c.sign;
-      grouping = grouping;
+      grouping = (groups_of notation c.grouping).0;
+      group_sizes = (groups_of notation c.grouping).1;
       decimal_separator = unwrap_or c.decimal_separator separator.Auto;
       numbering_system = system;
-    })) (system_of c.system)) (grouping_of notation c.grouping)) (digits_of c))
+    })) (system_of c.system)) (digits_of c))
     (notation_of c.notation)) (scale_of c.scale)) (style_of c)) (no_usage c.usage)
 
 -- the options that a text names, or its error

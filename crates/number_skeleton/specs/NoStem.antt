@@ -2,7 +2,8 @@
 use Rattle.std.specs.{Prelude.{ℕ, ◌==◌, Bool, true, false, ◌||◌, ◌&&◌, not, List, Option, Some, None, Result, Ok, Err}, List.list_any, Str.bytes_eq}
 use Rattle.fixed_decimal.specs.declared.variations.SignDisplay.{SignDisplay, TheVariants.Never}
 use Rattle.locale_data.specs.{declared.{currency.CurrencySign.{CurrencySign, TheVariants.Accounting}, tables.symbols.TheConstants.NUMBERING_SYSTEMS}, Rows.unpadded}
-use Rattle.number_format.specs.{declared.{options.{CurrencyUsage.{CurrencyUsage, TheVariants.Cash}, NumberNotation.{NumberNotation, TheVariants.{Scientific, Engineering}}}, digits.precision.Minimum.TheVariants.Both}, DefaultDigits.{is_compact, currency_digits}}
+use Rattle.decimal_format.specs.declared.grouping.GroupingStrategy.{GroupingStrategy, TheVariants.Always}
+use Rattle.number_format.specs.{declared.{options.{CurrencyUsage.{CurrencyUsage, TheVariants.Cash}, GroupSizes.{GroupSizes, TheVariants.Thousands}, NumberNotation.{NumberNotation, TheVariants.{Scientific, Engineering}}}, digits.precision.Minimum.TheVariants.Both}, DefaultDigits.{is_compact, currency_digits}}
 use Rattle.number_skeleton.specs.{declared.error.SkeletonError.SkeletonError, Digits.{PrecisionValue, Fraction, Multiples, More, Less, DigitsValue, money_precision}, Meaning.{OptionsValue, StyleValue, Permille, Money}}
 
 -- an exponent of no digit
@@ -61,9 +62,16 @@ abbrev pub is_unnamed_system : Option (List ℕ) → Bool
 is_unnamed_system None = false
 is_unnamed_system (Some name) = not (is_listed name)
 
+-- groups of three by another strategy than `Always`
+abbrev pub are_unnamed_groups : GroupSizes → GroupingStrategy → Bool
+are_unnamed_groups Thousands Always = false
+are_unnamed_groups Thousands strategy = true
+are_unnamed_groups sizes strategy = false
+
 -- an option of these has no stem
 abbrev pub has_no_stem : OptionsValue → Bool
 has_no_stem o =
     is_unnamed_notation o.notation
     || (is_unnamed_style (is_compact o.notation) o.sign_display o.style
-    || (are_unnamed_digits o.style o.digits || is_unnamed_system o.numbering_system))
+    || (are_unnamed_digits o.style o.digits
+    || (are_unnamed_groups o.group_sizes o.grouping || is_unnamed_system o.numbering_system)))

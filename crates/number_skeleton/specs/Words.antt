@@ -10,6 +10,7 @@ use Rattle.number_format.specs.declared.options.CurrencyDisplay.TheVariants as d
 use Rattle.number_format.specs.declared.options.CurrencyUsage.TheVariants as usage
 use Rattle.number_format.specs.declared.options.DecimalSeparatorDisplay.TheVariants as separator
 use Rattle.number_format.specs.declared.options.ExponentSign.TheVariants as exponent_sign
+use Rattle.number_format.specs.declared.options.GroupSizes.TheVariants as sizes
 use Rattle.number_skeleton.specs.declared.{choices.{Choice.Choice, Exponent.Exponent}, counts.Counts.Counts, decimal.Decimal.Decimal, meaning.{Expected.Expected, Meaning.Meaning}, words.StemWord.StemWord}
 use Rattle.number_skeleton.specs.declared.choices.Choice.TheVariants as choice
 use Rattle.number_skeleton.specs.declared.choices.ChosenNotation.TheVariants as notation
@@ -81,14 +82,14 @@ stems =
     ∷ word (codes "rounding-mode-half-down") (choice.Mode (Some (mode.Unsigned absolute.HalfTrunc)))
     ∷ word (codes "rounding-mode-half-up") (choice.Mode (Some (mode.Unsigned absolute.HalfExpand)))
     ∷ word (codes "rounding-mode-unnecessary") (choice.Mode None)
-    ∷ word (codes "group-off") (choice.Grouping (Some grouping.Never))
-    ∷ word (codes ",_") (choice.Grouping (Some grouping.Never))
-    ∷ word (codes "group-min2") (choice.Grouping (Some grouping.Min2))
-    ∷ word (codes ",?") (choice.Grouping (Some grouping.Min2))
-    ∷ word (codes "group-auto") (choice.Grouping (Some grouping.Auto))
-    ∷ word (codes "group-on-aligned") (choice.Grouping (Some grouping.Always))
-    ∷ word (codes ",!") (choice.Grouping (Some grouping.Always))
-    ∷ word (codes "group-thousands") (choice.Grouping None)
+    ∷ word (codes "group-off") (choice.Grouping grouping.Never sizes.Locale)
+    ∷ word (codes ",_") (choice.Grouping grouping.Never sizes.Locale)
+    ∷ word (codes "group-min2") (choice.Grouping grouping.Min2 sizes.Locale)
+    ∷ word (codes ",?") (choice.Grouping grouping.Min2 sizes.Locale)
+    ∷ word (codes "group-auto") (choice.Grouping grouping.Auto sizes.Locale)
+    ∷ word (codes "group-on-aligned") (choice.Grouping grouping.Always sizes.Locale)
+    ∷ word (codes ",!") (choice.Grouping grouping.Always sizes.Locale)
+    ∷ word (codes "group-thousands") (choice.Grouping grouping.Always sizes.Thousands)
     ∷ stem_word (codes "integer-width") (choice.Integer no_digits) expected.Integer
     ∷ word (codes "integer-width-trunc") (choice.Integer no_digits)
     ∷ word (codes "latin") (choice.System (Some (padded 16 (codes "latn"))))

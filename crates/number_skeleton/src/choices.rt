@@ -9,8 +9,8 @@ use decimal_format::GroupingStrategy;
 use fixed_decimal::{SignDisplay, SignedRoundingMode};
 use locale_data::{CurrencySign, Name};
 use number_format::{
-    CompactLength, CurrencyDisplay, CurrencyUsage, DecimalSeparatorDisplay, ExponentSign, Minimum,
-    RoundingPriority,
+    CompactLength, CurrencyDisplay, CurrencyUsage, DecimalSeparatorDisplay, ExponentSign,
+    GroupSizes, Minimum, RoundingPriority,
 };
 
 /// The bytes of a stem, from an offset up to, and without, another.
@@ -103,7 +103,7 @@ pub(crate) enum Choice {
     Precision(ChosenPrecision),
     StripIfInteger,
     Mode(Option<SignedRoundingMode>),
-    Grouping(Option<GroupingStrategy>),
+    Grouping(GroupingStrategy, GroupSizes),
     Integer(Counts),
     System(Option<Name>),
     Width(Option<CurrencyDisplay>),
@@ -122,7 +122,7 @@ pub(crate) struct Choices {
     pub precision: Option<(ChosenPrecision, Span)>,
     pub strips_if_integer: bool,
     pub mode: Option<(Option<SignedRoundingMode>, Span)>,
-    pub grouping: Option<(Option<GroupingStrategy>, Span)>,
+    pub grouping: Option<(GroupingStrategy, GroupSizes)>,
     pub integer: Option<(Counts, Span)>,
     pub system: Option<(Option<Name>, Span)>,
     pub width: Option<(Option<CurrencyDisplay>, Span)>,
@@ -155,7 +155,7 @@ impl Choices {
             Choice::Usage => self.usage.is_some(),
             Choice::Precision(_) => self.precision.is_some(),
             Choice::Mode(_) => self.mode.is_some(),
-            Choice::Grouping(_) => self.grouping.is_some(),
+            Choice::Grouping(_, _) => self.grouping.is_some(),
             Choice::Integer(_) => self.integer.is_some(),
             Choice::System(_) => self.system.is_some(),
             Choice::Width(_) => self.width.is_some(),
@@ -193,7 +193,7 @@ impl Choices {
             Choice::Precision(precision) => all.precision = Some((precision, stem)),
             Choice::StripIfInteger => all.strips_if_integer = true,
             Choice::Mode(mode) => all.mode = Some((mode, stem)),
-            Choice::Grouping(grouping) => all.grouping = Some((grouping, stem)),
+            Choice::Grouping(strategy, sizes) => all.grouping = Some((strategy, sizes)),
             Choice::Integer(counts) => all.integer = Some((counts, stem)),
             Choice::System(system) => all.system = Some((system, stem)),
             Choice::Width(width) => all.width = Some((width, stem)),

@@ -1,6 +1,6 @@
 //! The options that no skeleton names.
 ghost use Rattle.std.specs.{Prelude.◌≡◌, Option.option_map};
-ghost use Rattle.number_skeleton.specs.{NoStem.{is_unnamed_notation, hides_accounting, is_unnamed_style, has_other_minimum, is_same_money, is_cash_of, has_other_cash, are_unnamed_digits, is_listed, is_unnamed_system, has_no_stem}, Digits.{precision_value, digits_value}, Meaning.{style_value, options_value}};
+ghost use Rattle.number_skeleton.specs.{NoStem.{is_unnamed_notation, hides_accounting, is_unnamed_style, has_other_minimum, is_same_money, is_cash_of, has_other_cash, are_unnamed_digits, is_listed, is_unnamed_system, are_unnamed_groups, has_no_stem}, Digits.{precision_value, digits_value}, Meaning.{style_value, options_value}};
 
 use crate::choices::Span;
 use crate::digits::money_precision;
@@ -9,7 +9,8 @@ use locale_data::{
     CurrencyCode, CurrencySign, NUMBERING_SYSTEMS, NumberingSystem, currency_digits, unpadded,
 };
 use number_format::{
-    CurrencyUsage, DigitOptions, Minimum, NumberNotation, NumberOptions, NumberStyle, Precision,
+    CurrencyUsage, DigitOptions, GroupSizes, GroupingStrategy, Minimum, NumberNotation,
+    NumberOptions, NumberStyle, Precision,
 };
 
 fn is_unnamed_notation(notation: NumberNotation) -> bool
@@ -118,6 +119,15 @@ fn is_unnamed_system(system: Option<NumberingSystem>) -> bool
     }
 }
 
+fn are_unnamed_groups(sizes: GroupSizes, strategy: GroupingStrategy) -> bool
+    ensures { result ≡ are_unnamed_groups sizes strategy }
+{
+    match (sizes, strategy) {
+        (GroupSizes::Locale, _) | (GroupSizes::Thousands, GroupingStrategy::Always) => false,
+        _ => true,
+    }
+}
+
 /// Returns whether one of the options has no stem.
 pub(crate) fn has_no_stem(options: &NumberOptions) -> bool
     ensures { result ≡ has_no_stem (options_value options.now) }
@@ -125,5 +135,6 @@ pub(crate) fn has_no_stem(options: &NumberOptions) -> bool
     is_unnamed_notation(options.notation)
         || is_unnamed_style(options.is_compact(), options.sign_display, options.style)
         || are_unnamed_digits(options.style, options.digits)
+        || are_unnamed_groups(options.group_sizes, options.grouping)
         || is_unnamed_system(options.numbering_system)
 }

@@ -2,7 +2,7 @@
 ghost use Rattle.std.specs.{Prelude.{◌≡◌, Ok, Err, MatchResult}, Option.option_map};
 ghost use Rattle.locale_data.specs.{Codes.{code_of, system_name}, Rows.unpadded};
 ghost use Rattle.locale_names.specs.Units.{index_of, indices_of};
-ghost use Rattle.number_skeleton.specs.{Digits.is_compact, Units.{unit_at, index_named}, Meaning.{notation_of, width_of, unit_display, currency_display, has_pattern, has_style, or_unsupported, unit_or_none, divided, units_by, units_of, second_of, style_value, usage_of, currency_style, units_style, hundredths_style, percent_style, permille_style, is_percent, loses_second, chosen_units, base_style, style_by, style_of, scale_of, grouping_of, system_by, system_of, no_usage, options_of, options_value}};
+ghost use Rattle.number_skeleton.specs.{Digits.is_compact, Units.{unit_at, index_named}, Meaning.{notation_of, width_of, unit_display, currency_display, has_pattern, has_style, or_unsupported, unit_or_none, divided, units_by, units_of, second_of, style_value, usage_of, currency_style, units_style, hundredths_style, percent_style, permille_style, is_percent, loses_second, chosen_units, base_style, style_by, style_of, scale_of, groups_of, system_by, system_of, no_usage, options_of, options_value}};
 
 use crate::choices::{Choices, ChosenNotation, ChosenPerUnit, ChosenPrecision, ChosenUnit, Span};
 use crate::error::SkeletonError;
@@ -13,7 +13,7 @@ use locale_data::{CurrencyCode, CurrencySign, NumberingSystem, unpadded};
 use locale_names::{Unit, UnitDisplay, UnitId};
 use number_format::{
     CurrencyDisplay, CurrencyStyle, CurrencyUsage, DecimalSeparatorDisplay, ExponentOptions,
-    NumberNotation, NumberOptions, NumberStyle, UnitStyle,
+    GroupSizes, NumberNotation, NumberOptions, NumberStyle, UnitStyle,
 };
 
 const STANDARD_SIGN: (SignDisplay, CurrencySign) = (SignDisplay::Auto, CurrencySign::Standard);
@@ -337,14 +337,11 @@ impl Choices {
         Ok(scale.power as i16)
     }
 
-    fn grouping_strategy(&self, notation: NumberNotation) -> Result<GroupingStrategy, SkeletonError>
-        ensures { result ≡ grouping_of notation self.now.grouping }
+    fn groups(&self, notation: NumberNotation) -> (GroupingStrategy, GroupSizes)
+        ensures { result ≡ groups_of notation self.now.grouping }
     {
-        match self.grouping {
-            Some((Some(grouping), _)) => Ok(grouping),
-            Some((None, stem)) => Err(stem.unsupported()),
-            None => Ok(notation.default_grouping()),
-        }
+        self.grouping
+            .unwrap_or((notation.default_grouping(), GroupSizes::Locale))
     }
 
     fn numbering_system(&self) -> Result<Option<NumberingSystem>, SkeletonError>
@@ -376,13 +373,15 @@ impl Choices {
         let style = self.style()?;
         let scale = self.power_of_ten()?;
         let notation = self.number_notation()?;
+        let (grouping, group_sizes) = self.groups(notation);
         Ok(NumberOptions {
             style,
             scale,
             notation,
             digits: Some(self.digit_options()?),
             sign_display: self.sign.unwrap_or(STANDARD_SIGN).0,
-            grouping: self.grouping_strategy(notation)?,
+            grouping,
+            group_sizes,
             decimal_separator: self
                 .decimal_separator
                 .unwrap_or(DecimalSeparatorDisplay::Auto),

@@ -146,6 +146,7 @@ pub(crate) fn same_options(first: &NumberOptions, second: &NumberOptions) -> boo
         && same_digit_options(first.digits, second.digits)
         && first.sign_display == second.sign_display
         && first.grouping == second.grouping
+        && first.group_sizes == second.group_sizes
         && first.decimal_separator == second.decimal_separator
         && same_system(first.numbering_system, second.numbering_system)
 }

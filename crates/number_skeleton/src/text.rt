@@ -10,7 +10,7 @@ use locale_data::{CurrencyCode, CurrencySign, NumberingSystem};
 use locale_names::{Unit, UnitDisplay};
 use number_format::{
     CompactLength, CurrencyDisplay, DecimalSeparatorDisplay, ExponentOptions, ExponentSign,
-    IntegerDigits, NumberNotation, NumberOptions, NumberStyle,
+    GroupSizes, IntegerDigits, NumberNotation, NumberOptions, NumberStyle,
 };
 use numbers::{push_number, push_power, push_run};
 use precision::push_shown_precision;
@@ -95,8 +95,11 @@ fn mode_text(mode: SignedRoundingMode) -> &'static str {
     }
 }
 
-fn grouping_text(is_compact: bool, grouping: GroupingStrategy) -> &'static str {
-    match (is_compact, grouping) {
+fn grouping_text(is_compact: bool, sizes: GroupSizes, strategy: GroupingStrategy) -> &'static str {
+    if matches!(sizes, GroupSizes::Thousands) {
+        return "group-thousands ";
+    }
+    match (is_compact, strategy) {
         (true, GroupingStrategy::Min2) | (false, GroupingStrategy::Auto) => "",
         (true, GroupingStrategy::Auto) => "group-auto ",
         (false, GroupingStrategy::Min2) => "group-min2 ",
@@ -107,14 +110,14 @@ fn grouping_text(is_compact: bool, grouping: GroupingStrategy) -> &'static str {
 
 /// Appends `integer-width/*00`, or `integer-width/##00` where there is a greatest number.
 fn push_integer(text: &mut String, integer: IntegerDigits) -> Result<(), AllocError> {
-    if integer.max == 32768 {
-        if integer.min == 1 {
-            return Ok(());
+    match (integer.min, integer.max) {
+        (1, 32768) => return Ok(()),
+        (0, 0) => return text.push_str("integer-width-trunc "),
+        (_, 32768) => text.push_str("integer-width/*")?,
+        (min, max) => {
+            text.push_str("integer-width/")?;
+            push_run(text, '#', (max - min) as u32)?;
         }
-        text.push_str("integer-width/*")?;
-    } else {
-        text.push_str("integer-width/")?;
-        push_run(text, '#', (integer.max - integer.min) as u32)?;
     }
     push_run(text, '0', integer.min as u32)?;
     text.push(' ')
@@ -214,7 +217,7 @@ pub(crate) fn push_skeleton(text: &mut String, options: &NumberOptions) -> Resul
         push_shown_precision(text, options, digits)?;
         text.push_str(mode_text(digits.mode))?;
     }
-    text.push_str(grouping_text(options.is_compact(), options.grouping))?;
+    text.push_str(grouping_text(options.is_compact(), options.group_sizes, options.grouping))?;
     if let Some(digits) = options.digits {
         push_integer(text, digits.integer)?;
     }

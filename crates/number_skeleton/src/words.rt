@@ -12,7 +12,9 @@ use decimal_format::GroupingStrategy;
 use fixed_decimal::{SignDisplay, SignedRoundingMode, UnsignedRoundingMode};
 use locale_data::{CurrencySign, Name};
 use number_format::CurrencyUsage::{Cash, Standard};
-use number_format::{CompactLength, CurrencyDisplay, DecimalSeparatorDisplay, ExponentSign};
+use number_format::{
+    CompactLength, CurrencyDisplay, DecimalSeparatorDisplay, ExponentSign, GroupSizes,
+};
 
 /// A stem that is a word, and what it means.
 #[derive(Clone, Copy)]
@@ -97,14 +99,15 @@ static STEMS: [StemWord; 72] = stems! {
     b"rounding-mode-half-up       "
         Choice::Mode(Some(SignedRoundingMode::Unsigned(UnsignedRoundingMode::HalfExpand))), Expected::Stem;
     b"rounding-mode-unnecessary   " Choice::Mode(None), Expected::Stem;
-    b"group-off                   " Choice::Grouping(Some(GroupingStrategy::Never)), Expected::Stem;
-    b",_                          " Choice::Grouping(Some(GroupingStrategy::Never)), Expected::Stem;
-    b"group-min2                  " Choice::Grouping(Some(GroupingStrategy::Min2)), Expected::Stem;
-    b",?                          " Choice::Grouping(Some(GroupingStrategy::Min2)), Expected::Stem;
-    b"group-auto                  " Choice::Grouping(Some(GroupingStrategy::Auto)), Expected::Stem;
-    b"group-on-aligned            " Choice::Grouping(Some(GroupingStrategy::Always)), Expected::Stem;
-    b",!                          " Choice::Grouping(Some(GroupingStrategy::Always)), Expected::Stem;
-    b"group-thousands             " Choice::Grouping(None), Expected::Stem;
+    b"group-off                   " Choice::Grouping(GroupingStrategy::Never, GroupSizes::Locale), Expected::Stem;
+    b",_                          " Choice::Grouping(GroupingStrategy::Never, GroupSizes::Locale), Expected::Stem;
+    b"group-min2                  " Choice::Grouping(GroupingStrategy::Min2, GroupSizes::Locale), Expected::Stem;
+    b",?                          " Choice::Grouping(GroupingStrategy::Min2, GroupSizes::Locale), Expected::Stem;
+    b"group-auto                  " Choice::Grouping(GroupingStrategy::Auto, GroupSizes::Locale), Expected::Stem;
+    b"group-on-aligned            " Choice::Grouping(GroupingStrategy::Always, GroupSizes::Locale), Expected::Stem;
+    b",!                          " Choice::Grouping(GroupingStrategy::Always, GroupSizes::Locale), Expected::Stem;
+    b"group-thousands             "
+        Choice::Grouping(GroupingStrategy::Always, GroupSizes::Thousands), Expected::Stem;
     b"integer-width               " Choice::Integer(NO_DIGITS), Expected::Integer;
     b"integer-width-trunc         " Choice::Integer(NO_DIGITS), Expected::Stem;
     b"latin                       " Choice::System(Some(*b"latn            ")), Expected::Stem;

@@ -21,9 +21,9 @@ pub use digit_limit::{
     SixteenDigits, TwentyOneDigits,
 };
 pub use failing_writer::{FailingWriter, WriteFailure};
-pub use limited_sink::{LimitedSink, displays, fails_without_room, shows};
+pub use limited_sink::{LimitedSink, displays, fails_without_room};
 pub use limited_store::{Counting, CountingStore, LimitedStore};
 pub use rounds::{RoundedResult, Rounding, RoundingMethod, Rounds, rounded, rounding_methods};
 pub use rows::{all_hold, check_rows, named};
 pub use runs::expand_runs;
-pub use value::{Value, has_text, is_outcome, parse_outcome};
+pub use value::{Value, has_text, parse_outcome};

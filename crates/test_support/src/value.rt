@@ -34,18 +34,6 @@ pub fn parse_outcome<T: Drop>(answer: Result<T, ParseError>) -> Option<&'static 
     }
 }
 
-/// Whether the result of parsing a text is a value with this text, or the error with this name; `None` if out of
-/// memory.
-pub fn is_outcome<T: Writeable + Drop>(
-    answer: Result<T, ParseError>,
-    expected: &str,
-) -> Option<bool> {
-    match answer {
-        Ok(value) => Some(shows(&value, expected.as_bytes())),
-        error => Some(parse_outcome(error)? == expected),
-    }
-}
-
 /// Whether a value has this text, and its length as the length hint.
 pub fn has_text<T: Writeable>(value: &T, text: &str) -> bool {
     (value.writeable_length_hint() == text.len()) & shows(value, text.as_bytes())

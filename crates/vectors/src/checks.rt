@@ -3,7 +3,6 @@ use std::alloc::Global;
 
 mod errors;
 mod modes;
-mod options;
 mod sinks;
 mod stores;
 
@@ -12,7 +11,6 @@ pub fn hold(alloc: Global, name: &str) -> Option<bool> {
     match name {
         "errors" => Some(errors::are_displayed()),
         "modes" => Some(modes::are_ordered()),
-        "options" => options::hold(alloc),
         "sinks" => sinks::hold(alloc),
         "stores" => Some(stores::hold(alloc)),
         _ => None,

@@ -1,12 +1,11 @@
-//! Checks test vectors over every store of digits: texts, calls, and their expected results; and numbers in locales.
+//! Checks test vectors over every store of digits: texts, calls, and their expected results.
 //!
-//! Each line of standard input is a row of fields: with tabs between them as the module `locales` says, the others with
-//! ` | `. Blank lines, and lines that start with `#` and have no tab, are not rows. Each row that fails is printed with
-//! its line number; the last line counts the rows.
+//! Each line of standard input is a row of fields with ` | ` between them. Blank lines, and lines that start with `#`
+//! and have no tab, are not rows. Each row that fails is printed with its line number; the last line counts the rows.
 //!
-//! The rows are in `rows/`, in a file for each kind: `.txt` with ` | `, and `.tsv` with tabs. A file that is made by a
-//! script names the command in its first line. The file `stdin` has all of them. To add a row, write it into a file of
-//! `rows/`, run `cat crates/vectors/rows/* > crates/vectors/stdin`, and raise the count in `stdout`.
+//! The rows are in `rows/`, in a file for each kind. The file `stdin` has all of them. To add a row, write it into a
+//! file of `rows/`, run `cat crates/vectors/rows/* > crates/vectors/stdin`, and raise the count in `stdout`. Rows of
+//! numbers in locales are in `tests/rows`, and `tests/rows.py` checks them.
 //!
 //! ```text
 //! unsigned | TEXT | RESULT                  TEXT is read as a value that prints RESULT, or fails with
@@ -48,7 +47,6 @@ mod comparing;
 mod digits;
 mod edited;
 mod integers;
-mod locales;
 mod plural;
 mod reading;
 mod rows;
@@ -85,19 +83,8 @@ fn of_mode(alloc: Global, (front, back): (&str, &str), index: u32) -> Option<Str
     format!(in alloc; "{front}:{mode}:{increment} | {result}").ok()
 }
 
-/// Whether the fields of a row have tabs between them: in those of the others there may be tabs.
-fn is_in_locale(line: &str) -> bool {
-    match line.split_once('\t') {
-        Some((first, _)) => !first.contains(" | "),
-        None => false,
-    }
-}
-
 /// Whether a row of a line holds.
 fn holds(alloc: Global, line: &str, index: u32) -> Option<bool> {
-    if is_in_locale(line) {
-        return locales::holds(alloc, line);
-    }
     let row = match line.split_once(":each:") {
         Some(parts) => of_mode(alloc, parts, index)?,
         None => of_length(alloc, line, length(index))?,

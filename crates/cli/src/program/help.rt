@@ -139,8 +139,8 @@ E0, EE0                 12000 is 1.2E4, or 12E3 with an exponent that is a multi
 @@ @@# @@*              two significant digits, two or three, two or more
 precision-increment/0.05, precision-currency-cash
 rounding-mode-half-up   also ceiling, floor, down, up, half-even, half-ceiling, half-floor, half-down
-000                     three integer digits or more; integer-width/##00: two to four
-,_ ,? ,!                groups: never, min2, always
+000                     three integer digits or more; integer-width/##00: two to four; integer-width/*: .5
+,_ ,? ,!                groups: never, min2, always; group-thousands: of three digits in each locale
 +! +_ +? +- ()          sign: always, never, except-zero, negative, accounting
 scale/100               multiplies by a power of ten first
 numbering-system/arab   digits

@@ -6,3 +6,4 @@ pub mod OuterChoices
 pub mod ExponentDigits
 pub mod StandardNotation
 pub mod StyleSystems
+pub mod Fractions

@@ -8,14 +8,14 @@ use fixed_decimal::RoundingIncrement;
 
 /// The least and the greatest number of integer digits.
 ///
-/// The least is from 1 to 32,767. Digits above the greatest are cut off after the rounding; by 32,768 none is.
+/// The least is at most 32,767; by 0 no integer digit has to be shown, so that 0.5 is `.5`. Digits above the greatest
+/// are cut off after the rounding; by 32,768 none is.
 #[derive(Clone, Copy, Debug, PartialEq)]
 pub struct IntegerDigits {
     /// The least number of integer digits that is shown.
     pub min: u16,
     /// The greatest number of integer digits that is shown.
     pub max: u16,
-    pub ghost some: { 0 < min },
     pub ghost few: { min ≤ 32767 },
     pub ghost ordered: { min ≤ max },
     pub ghost at_most: { max ≤ 32768 },
@@ -74,13 +74,13 @@ impl IntegerDigits {
     ///
     /// # Errors
     ///
-    /// `IntegerDigits`: the least number is 0, above the greatest, or above 32,767; or the greatest is above 32,768.
+    /// `IntegerDigits`: the least number is above the greatest, or above 32,767; or the greatest is above 32,768.
     pub fn new(min: u16, max: u16) -> Result<IntegerDigits, DigitOptionsError>
         ensures ok { IfOk result (λ digits. (digits.min ≡ min) × (digits.max ≡ max)) }
         ensures err { IfErr result (λ e. (e ≡ DigitOptionsError.IntegerDigits)
-            × ((min ≡ 0) ⊎ ((max < min) ⊎ ((32767 < min) ⊎ (32768 < max))))) }
+            × ((max < min) ⊎ ((32767 < min) ⊎ (32768 < max)))) }
     {
-        if min == 0 || min > max || min > 32767 || max > 32768 {
+        if min > max || min > 32767 || max > 32768 {
             return Err(DigitOptionsError::IntegerDigits);
         }
         Ok(IntegerDigits { min, max })

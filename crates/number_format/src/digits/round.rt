@@ -104,7 +104,7 @@ impl DigitOptions {
         ensures size { size value.new.number ≤ size value.old.number }
     {
         self.cut_integer_digits(value);
-        value.pad_start(self.integer.min as i16);
+        value.pad_start(self.integer.min.max(1) as i16);
         value.pad_end(last.clamp(-32768, 0) as i16);
         self.trailing_zeros.strip(value);
     }

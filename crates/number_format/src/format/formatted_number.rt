@@ -4,12 +4,13 @@ ghost use Rattle.decimal_digits.specs.AppendsPrefix.{AppendsPrefix};
 ghost use Rattle.fixed_decimal.specs.Decimal.{Decimal, displayed_sign};
 ghost use Rattle.decimal_format.specs.{Formatted.formatted_absolute, declared.grouping.GroupingStrategy.TheVariants.Never};
 ghost use Rattle.locale_data.specs.Compact.{AreTexts};
-ghost use Rattle.number_format.specs.{FormattedNumbers.{pattern_of, around_of, outer_of, exponent_text, number_text, number_text_if, number_pieces_if, separator_of, significand_text, around_text, inner_text, inner_text_if, inner_pieces, inner_pieces_if, formatted_number_pieces, formatted_number_text, ChoosesWhole, IsOuter, IsShownNumber}, NumberText.{compact_around, exponent_of, exponent_pieces, significand_pieces, shown_number, AreParts, AreNumberPieces, WritingNeedsMemory}, PatternTexts.{around, pattern_around}, TextParts.{parts_text, pieces_text, Puts, PutsPrefix}};
+ghost use Rattle.number_format.specs.{FormattedNumbers.{digits_of, hides_zero_of, pattern_of, around_of, outer_of, exponent_text, number_text, number_text_if, number_pieces_if, separator_of, significand_text, around_text, inner_text, inner_text_if, inner_pieces, inner_pieces_if, formatted_number_pieces, formatted_number_text, ChoosesWhole, IsOuter, IsShownNumber}, NumberText.{compact_around, exponent_of, exponent_pieces, significand_pieces, shown_number, AreParts, AreNumberPieces, WritingNeedsMemory}, PatternTexts.{around, pattern_around}, TextParts.{parts_text, pieces_text, Puts, PutsPrefix}};
 
 use crate::format::affixes::NumberAffixes;
 use crate::format::compact::CompactChoice;
 use crate::format::exponent::{exponent_kind, shown_exponent};
 use crate::format::formatter::NumberFormatter;
+use crate::format::fraction::{fmt_fraction, fraction_length, hides_zero, write_fraction};
 use crate::format::outer::{OuterAround, OuterTexts, put_outer};
 use crate::format::parts::{
     PartSink, fmt_parts, parts_length, push_parts, put, put_digits, put_parts, write_parts,
@@ -134,7 +135,7 @@ impl<'f> FormattedNumber<'f> {
         }
     }
 
-    fn affixes(&self) -> NumberAffixes<'_>
+    pub(crate) fn affixes(&self) -> NumberAffixes<'_>
         ensures parts { AreParts (around_of self.now) result }
         ensures text { parts_text result.prefix ++ (number_text_if self.now result.has_number
             ++ parts_text result.suffix) ≡ inner_text self.now }
@@ -187,6 +188,27 @@ impl<'f> FormattedNumber<'f> {
         self.exponent_digits(exponent).write_to(sink)
     }
 
+    #[inline(always)]
+    fn hides_zero(&self) -> bool
+        ensures { result ≡ hides_zero_of self.now }
+    {
+        let formatter = self.formatter;
+        let display = formatter.options.decimal_separator;
+        hides_zero(&formatter.digits, display, &self.value.absolute)
+    }
+
+    fn write_digits<W: Sink>(&self, sink: &mut W) -> Result<(), SinkFault>
+        ensures ok { OnOk result (Appends (W.contents sink.old) (W.contents sink.new) (digits_of self.now)) }
+        ensures err { OnErr result
+            (AppendsPrefix (W.contents sink.old) (W.contents sink.new) (digits_of self.now)) }
+        ensures failed { OnErr result (W.has_failed sink.new ≡ true) }
+    {
+        if self.hides_zero() {
+            return write_fraction(&self.digits(), sink);
+        }
+        self.digits().write_to(sink)
+    }
+
     fn write_significand<W: Sink>(&self, sink: &mut W) -> Result<(), SinkFault>
         ensures ok { OnOk result
             (Appends (W.contents sink.old) (W.contents sink.new) (significand_text self.now)) }
@@ -194,7 +216,7 @@ impl<'f> FormattedNumber<'f> {
             (AppendsPrefix (W.contents sink.old) (W.contents sink.new) (significand_text self.now)) }
         ensures failed { OnErr result (W.has_failed sink.new ≡ true) }
     {
-        self.digits().write_to(sink)?;
+        self.write_digits(sink)?;
         sink.put_bytes(self.separator().as_bytes())
     }
 
@@ -219,10 +241,19 @@ impl<'f> FormattedNumber<'f> {
         }
     }
 
+    fn fmt_digits<W: fmt::Write>(&self, f: &mut fmt::Formatter<W>) -> fmt::Result
+        ensures { WritesStyledOnOk W.write_str_gives f.old result (digits_of self.now) f.new }
+    {
+        if self.hides_zero() {
+            return fmt_fraction(&self.digits(), f);
+        }
+        fmt::Display::fmt(&self.digits(), f)
+    }
+
     fn fmt_significand<W: fmt::Write>(&self, f: &mut fmt::Formatter<W>) -> fmt::Result
         ensures { WritesStyledOnOk W.write_str_gives f.old result (significand_text self.now) f.new }
     {
-        fmt::Display::fmt(&self.digits(), f)?;
+        self.fmt_digits(f)?;
         f.write_str(self.separator())
     }
 
@@ -303,12 +334,22 @@ impl<'f> FormattedNumber<'f> {
         fmt_parts(&affixes.suffix, f)
     }
 
+    fn digits_length(&self) -> usize
+        ensures value { result ≡ length (digits_of self.now) }
+        ensures at_most { result ≤ 8618239 }
+    {
+        if self.hides_zero() {
+            return fraction_length(&self.digits());
+        }
+        self.digits().writeable_length_hint()
+    }
+
     pub(crate) fn number_length(&self) -> usize
         ensures value { result ≡ length (number_text self.now) }
         ensures at_most { result ≤ 17237243 }
     {
         let formatter = self.formatter;
-        let digits = self.digits().writeable_length_hint() + self.separator().len();
+        let digits = self.digits_length() + self.separator().len();
         match &self.shown_exponent() {
             Some(exponent) => {
                 digits
@@ -344,6 +385,17 @@ impl<'f> FormattedNumber<'f> {
         put_to_block(&self.exponent_digits(exponent), block)
     }
 
+    /// Appends the digits, but not those of a number that begins with the decimal separator.
+    #[inline(always)]
+    fn push_digits(&self, block: &mut Block) -> Result<(), SinkFault>
+        ensures { OnOk result (block.new.0 ≡ block.old.0 ++ digits_of self.now) }
+    {
+        if self.hides_zero() {
+            return Err(SinkFault);
+        }
+        put_to_block(&self.digits(), block)
+    }
+
     #[inline(always)]
     fn push_separator(&self, block: &mut Block) -> Result<(), SinkFault>
         ensures { OnOk result (block.new.0 ≡ block.old.0 ++ separator_of self.now) }
@@ -355,11 +407,18 @@ impl<'f> FormattedNumber<'f> {
     }
 
     #[inline(always)]
-    fn put_digits(&self, block: &mut Block) -> Result<(), SinkFault>
-        ensures { OnOk result (block.new.0 ≡ block.old.0 ++ number_text self.now) }
+    fn push_significand(&self, block: &mut Block) -> Result<(), SinkFault>
+        ensures { OnOk result (block.new.0 ≡ block.old.0 ++ significand_text self.now) }
     {
-        put_to_block(&self.digits(), block)?;
-        self.push_separator(block)?;
+        self.push_digits(block)?;
+        self.push_separator(block)
+    }
+
+    #[inline(always)]
+    fn push_shown_exponent(&self, block: &mut Block) -> Result<(), SinkFault>
+        ensures { OnOk result (block.new.0 ≡ block.old.0 ++ exponent_text self.now.formatter.now
+            (exponent_of self.now.formatter.now.options.notation self.now.exponent)) }
+    {
         match self.formatter.options.notation {
             NumberNotation::Scientific(options) | NumberNotation::Engineering(options) => {
                 let exponent = shown_exponent(self.alloc, options, self.exponent);
@@ -367,6 +426,14 @@ impl<'f> FormattedNumber<'f> {
             }
             _ => Ok(()),
         }
+    }
+
+    #[inline(always)]
+    fn put_digits(&self, block: &mut Block) -> Result<(), SinkFault>
+        ensures { OnOk result (block.new.0 ≡ block.old.0 ++ number_text self.now) }
+    {
+        self.push_significand(block)?;
+        self.push_shown_exponent(block)
     }
 
     fn put_compact(&self, pattern: &CompactPattern, block: &mut Block) -> Result<(), SinkFault>
@@ -465,20 +532,21 @@ impl<'f> FormattedNumber<'f> {
         put_digits(
             &self.exponent_digits(exponent),
             PartKind::ExponentInteger,
+            false,
             sink,
         )
     }
 
     fn put_significand<P: PartSink>(&self, sink: &mut P) -> Result<(), SinkFault>
         ensures ok { OnOk result (Puts (P.pieces sink.old) (P.pieces sink.new)
-            (significand_pieces self.now.formatter.now self.now.formatter.now.options.decimal_separator
-            self.now.value.absolute)) }
+            (significand_pieces self.now.formatter.now self.now.formatter.now.digits
+            self.now.formatter.now.options.decimal_separator self.now.value.absolute)) }
         ensures err { OnErr result (PutsPrefix (P.pieces sink.old) (P.pieces sink.new)
-            (significand_pieces self.now.formatter.now self.now.formatter.now.options.decimal_separator
-            self.now.value.absolute)) }
+            (significand_pieces self.now.formatter.now self.now.formatter.now.digits
+            self.now.formatter.now.options.decimal_separator self.now.value.absolute)) }
         ensures failed { OnErr result (P.has_failed sink.new ≡ true) }
     {
-        put_digits(&self.digits(), PartKind::Integer, sink)?;
+        put_digits(&self.digits(), PartKind::Integer, self.hides_zero(), sink)?;
         put(sink, PartKind::Decimal, self.separator())
     }
 

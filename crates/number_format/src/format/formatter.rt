@@ -41,7 +41,7 @@ impl NumberFormatter {
     ghost use Rattle.fixed_decimal.specs.DecimalText.{IsLong};
     ghost use Rattle.locale_data.specs.Plurals.{IsCategoryAt};
     ghost use Rattle.plural_rules.specs.Operands.{plain};
-    ghost use Rattle.number_format.specs.{FormattedNumbers.{ChoosesOuter, ChoosesPattern, ChoosesWhole, IsOuter, IsShownNumber}, Formatters.{LacksRows, IsFormatterAt, IsFormatter, IsFormatterError, IsRangeFormatter}, NumberText.{compact_style, has_categories, operands_with, outer_by, outer_texts, shown_number, rounded_in, rounded_by, whole_number, RoundingNeedsMemory, NeedsMemory, WholeRoundingNeedsMemory, WritingNeedsMemory, FormattingNeedsMemory}, Scaled.{ScaledValue, scaled_value}};
+    ghost use Rattle.number_format.specs.{FormattedNumbers.{ChoosesOuter, ChoosesPattern, ChoosesWhole, IsOuter, IsShownNumber}, Formatters.{LacksRows, IsFormatterAt, IsFormatterWith, IsFormatter, IsFormatterError, IsRangeFormatter, IsRangeFormatterAt}, NumberText.{compact_style, has_categories, operands_with, outer_by, outer_texts, shown_number, rounded_in, rounded_by, whole_number, RoundingNeedsMemory, NeedsMemory, WholeRoundingNeedsMemory, WritingNeedsMemory, FormattingNeedsMemory}, Scaled.{ScaledValue, scaled_value}};
     ghost use Rattle.fixed_decimal.specs.Decimal.{Decimal};
 
     /// Makes the formatter of a locale and options. It does not allocate.
@@ -84,8 +84,8 @@ impl NumberFormatter {
         ensures ok { IfOk result (IsRangeFormatter tag.now options) }
         ensures err { IfErr result (λ e. IsFormatterError tag.now options.numbering_system e) }
     {
-        let ids = FormatterIds::of_ranges(tag, &options)?;
-        match Self::at(&ids, &options) {
+        let ids = FormatterIds::of(tag, &options)?;
+        match Self::ranges_at(&ids, &options) {
             Some(formatter) => Ok(formatter),
             None => unreachable!(),
         }
@@ -101,14 +101,42 @@ impl NumberFormatter {
         ensures some { IfSome result (IsFormatterAt ids.now options.now) }
         ensures none { IfNone result (LacksRows ids.now) }
     {
+        let outer = ids.outer.alone(options.style, options.notation);
+        Self::with_outer(ids, outer, options)
+    }
+
+    /// Makes the formatter of rows of tables and options for [`format_range`](Self::format_range), as
+    /// [`for_ranges`](Self::for_ranges) does. Returns `None` if there are no such rows.
+    ///
+    /// ```
+    /// let ids = FormatterIds::of("de", &options)?;
+    /// NumberFormatter::ranges_at(&ids, &options) // the formatter of ranges of de
+    /// ```
+    pub fn ranges_at(ids: &FormatterIds, options: &NumberOptions) -> Option<NumberFormatter>
+        ensures some { IfSome result (IsRangeFormatterAt ids.now options.now) }
+        ensures none { IfNone result (LacksRows ids.now) }
+    {
+        Self::with_outer(ids, ids.outer, options)
+    }
+
+    #[inline(always)]
+    fn with_outer(
+        ids: &FormatterIds,
+        texts: OuterTexts,
+        options: &NumberOptions,
+    ) -> Option<NumberFormatter>
+        ensures some { IfSome result (IsFormatterWith ids.now texts options.now) }
+        ensures none { IfNone result (LacksRows ids.now) }
+    {
         let symbols = symbols_at(ids.symbols)?;
         let system = style_system(ids.symbols, options)?;
         let _rules = rules_text_at(ids.rules)?;
         let currency = currency_by(ids.currency)?;
         let own = symbols.sizes();
-        let outer = ids.outer.in_style(options.style);
+        let outer = texts.in_style(options.style);
         let (written, shown) = style_of(system, own, &ids.formats, currency, &outer, options);
-        let sizes = style_sizes(&written.pattern, options.grouping, own);
+        let strategy = options.grouping;
+        let sizes = style_sizes(&written.pattern, options.group_sizes, strategy, own);
         let signs = ids.formats.signs();
         let percent = percent_text(options.style, signs);
         let style = StyleTexts {

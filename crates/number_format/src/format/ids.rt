@@ -1,7 +1,7 @@
 //! The rows of tables of which a formatter is made.
 ghost use Rattle.std.specs.{Prelude.{◌≡◌, None, IfOk, IfErr, IfSome, IfNone, IsSomeAnd}, Option.option_copied};
 ghost use Rattle.locale_data.specs.{Currencies.LacksCurrency, Locales.{symbols_at, IsUnknown}};
-ghost use Rattle.number_format.specs.Formatters.{system_text, IsSystemOf, LacksRows, IsCurrencyBy, IsCurrencyRow, AreSymbolsOf, AreIdsOf, AreRangeIdsOf, IsFormatterError};
+ghost use Rattle.number_format.specs.Formatters.{system_text, IsSystemOf, LacksRows, IsCurrencyBy, IsCurrencyRow, AreSymbolsOf, AreIdsOf, IsFormatterError};
 
 use crate::format::outer::OuterTexts;
 use crate::options::{NumberOptions, NumberStyle};
@@ -124,24 +124,6 @@ impl FormatterIds {
             rules,
             currency: currency_row(tag, options.style),
             outer: OuterTexts::of(tag, options.style, options.notation),
-        })
-    }
-
-    /// Finds the rows of a locale and options for ranges: those of [`FormatterIds::of`], but with both units of
-    /// `percent-per-hour`.
-    ///
-    /// # Errors
-    ///
-    /// As [`NumberFormatter::try_new`](crate::NumberFormatter::try_new).
-    pub fn of_ranges(tag: &str, options: &NumberOptions) -> Result<FormatterIds, NumberFormatError>
-        ensures ok { IfOk result (AreRangeIdsOf tag.now options.now) }
-        ensures exist { IfOk result (λ ids. ¬ LacksRows ids) }
-        ensures err { IfErr result (λ e. IsFormatterError tag.now options.now.numbering_system e) }
-    {
-        let ids = Self::of(tag, options)?;
-        Ok(FormatterIds {
-            outer: OuterTexts::of_ranges(tag, options.style, options.notation),
-            ..ids
         })
     }
 }

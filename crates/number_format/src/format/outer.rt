@@ -1,7 +1,7 @@
 //! What is written around the whole text of a number, its sign included: the text of a unit, or the name of a currency.
 ghost use Rattle.std.specs.Prelude.{◌≡◌, ◌≤◌, ◌++◌, [], length, OnOk, OnErr, true};
 ghost use Rattle.locale_names.specs.LocaleUnits.{joined_texts, around_number, AreShort};
-ghost use Rattle.number_format.specs.{FormattedNumbers.IsOuter, NumberStyles.{is_percentage, outer_for, shows_name, AreNameTexts, AreOuterTexts, AreOuterTextsOfRanges, AreUnitTexts}, NumberText.{around_texts, name_texts, place_of, with_number}, PatternTexts.around, TextParts.{parts_text, pieces_of, Puts, PutsPrefix}};
+ghost use Rattle.number_format.specs.{FormattedNumbers.IsOuter, NumberStyles.{is_percentage, outer_alone, outer_for, shows_name, AreNameTexts, AreOuterTexts, AreUnitTexts}, NumberText.{around_texts, name_texts, place_of, with_number}, PatternTexts.around, TextParts.{parts_text, pieces_of, Puts, PutsPrefix}};
 ghost use Rattle.locale_names.specs.LocaleCurrencies.{name_for, pattern_for};
 
 use crate::format::parts::{PartSink, put};
@@ -20,7 +20,7 @@ use plural_rules::PluralCategory;
 pub enum OuterTexts {
     /// Nothing but the percent sign of compact notation.
     None,
-    /// The patterns of a unit.
+    /// The patterns of a unit. In percent per another unit only ranges are written by them.
     Units(UnitPatterns),
     /// The names of a currency.
     Names(CurrencyNames),
@@ -59,24 +59,30 @@ impl OuterTexts {
         }
     }
 
+    /// Returns the texts around one number, of those around a range.
+    #[inline(always)]
+    pub(crate) fn alone(self, style: NumberStyle, notation: NumberNotation) -> OuterTexts
+        ensures { result ≡ outer_alone style notation self }
+    {
+        match style {
+            NumberStyle::Unit(unit) if unit.unit.per.is_some() && is_percentage(unit, notation) => {
+                OuterTexts::None
+            }
+            _ => self,
+        }
+    }
+
     /// Finds the texts of a style in a locale.
     pub(crate) fn of(tag: &str, style: NumberStyle, notation: NumberNotation) -> OuterTexts
         ensures { AreOuterTexts tag.now style notation result }
     {
         match style {
-            NumberStyle::Unit(style) => Self::of_unit(tag, style, is_percentage(style, notation)),
+            NumberStyle::Unit(unit) => {
+                let has_none = unit.unit.per.is_none() && is_percentage(unit, notation);
+                Self::of_unit(tag, unit, has_none)
+            }
             NumberStyle::Currency(style) => Self::of_currency(tag, style),
             _ => OuterTexts::None,
-        }
-    }
-
-    /// Finds the texts of a style in a locale, for ranges.
-    pub(crate) fn of_ranges(tag: &str, style: NumberStyle, notation: NumberNotation) -> OuterTexts
-        ensures { AreOuterTextsOfRanges tag.now style notation result }
-    {
-        match style {
-            NumberStyle::Unit(unit) if unit.unit.per.is_some() => Self::of_unit(tag, unit, false),
-            _ => Self::of(tag, style, notation),
         }
     }
 

@@ -2,7 +2,7 @@
 ghost use Rattle.std.specs.{Prelude.{◌≡◌, ◌*◌, ◌<◌, ◌≤◌, ◌-ℤ◌, [], ◌∷◌, ◌++◌, length, List, Option, Bool, true, false, pos, OnOk, OnErr}, Fmt.WritesStyledOnOk, Io.KnownBytes.Appends};
 ghost use Rattle.decimal_digits.specs.AppendsPrefix.{AppendsPrefix};
 ghost use Rattle.decimal_format.specs.Formatted.{shown_count};
-ghost use Rattle.number_format.specs.TextParts.{Piece, Puts, PutsPrefix, is_whole, piece_of, pieces_of, pieces_to_end, trimmed_pieces, part_pieces, parts_pieces, parts_text, pieces_text, digit_kind, magnitude_pieces, digit_pieces};
+ghost use Rattle.number_format.specs.TextParts.{Piece, Puts, PutsPrefix, is_shown, is_whole, piece_of, pieces_of, pieces_to_end, trimmed_pieces, part_pieces, parts_pieces, parts_text, pieces_text, digit_if, digit_kind, magnitude_pieces, digit_pieces};
 
 use crate::format::text_part::{PartKind, TextPart};
 use crate::format::trimmed::{split_end, split_start};
@@ -171,39 +171,75 @@ fn digit_kind(whole: PartKind, magnitude: i16) -> PartKind
     }
 }
 
-fn put_magnitude<P: PartSink>(
+/// Returns whether the digit of a magnitude is shown, where integer digits may be hidden.
+pub(crate) fn is_shown(is_hidden: bool, magnitude: i16) -> bool
+    ensures { result ≡ is_shown is_hidden magnitude }
+{
+    if !is_hidden || magnitude < 0 {
+        return true;
+    }
+    false
+}
+
+fn put_digit<P: PartSink>(
     digits: &FormattedAbsolute<'_, DecimalStore>,
     whole: PartKind,
+    is_hidden: bool,
     below: u32,
     sink: &mut P,
 ) -> Result<(), SinkFault>
     requires { below < shown_count digits.now.value }
-    ensures ok { OnOk result (Puts (P.pieces sink.old) (P.pieces sink.new) (magnitude_pieces whole digits.now.symbols
-        digits.now.strategy digits.now.value (digits.now.value.hi -ℤ pos below))) }
-    ensures err { OnErr result (PutsPrefix (P.pieces sink.old) (P.pieces sink.new) (magnitude_pieces whole
+    ensures ok { OnOk result (Puts (P.pieces sink.old) (P.pieces sink.new)
+        (pieces_of (digit_kind whole (digits.now.value.hi -ℤ pos below))
+        (digit_if is_hidden digits.now.symbols digits.now.value.number (digits.now.value.hi -ℤ pos below)))) }
+    ensures err { OnErr result (PutsPrefix (P.pieces sink.old) (P.pieces sink.new)
+        (pieces_of (digit_kind whole (digits.now.value.hi -ℤ pos below))
+        (digit_if is_hidden digits.now.symbols digits.now.value.number (digits.now.value.hi -ℤ pos below)))) }
+    ensures failed { OnErr result (P.has_failed sink.new ≡ true) }
+{
+    let magnitude = digits.magnitude(below);
+    if !is_shown(is_hidden, magnitude) {
+        return Ok(());
+    }
+    let mut buffer = [0; 4];
+    let digit = digits.digit(below).encode_utf8(&mut buffer);
+    put(sink, digit_kind(whole, magnitude), digit)
+}
+
+fn put_magnitude<P: PartSink>(
+    digits: &FormattedAbsolute<'_, DecimalStore>,
+    whole: PartKind,
+    is_hidden: bool,
+    below: u32,
+    sink: &mut P,
+) -> Result<(), SinkFault>
+    requires { below < shown_count digits.now.value }
+    ensures ok { OnOk result (Puts (P.pieces sink.old) (P.pieces sink.new) (magnitude_pieces is_hidden whole
+        digits.now.symbols digits.now.strategy digits.now.value (digits.now.value.hi -ℤ pos below))) }
+    ensures err { OnErr result (PutsPrefix (P.pieces sink.old) (P.pieces sink.new) (magnitude_pieces is_hidden whole
         digits.now.symbols digits.now.strategy digits.now.value (digits.now.value.hi -ℤ pos below))) }
     ensures failed { OnErr result (P.has_failed sink.new ≡ true) }
 {
     put(sink, PartKind::Decimal, digits.separator_before(below))?;
-    let mut buffer = [0; 4];
-    let digit = digits.digit(below).encode_utf8(&mut buffer);
-    put(sink, digit_kind(whole, digits.magnitude(below)), digit)?;
+    put_digit(digits, whole, is_hidden, below, sink)?;
     put(sink, PartKind::Group, digits.separator_after(below))
 }
 
+/// Puts the digits, of which the integer digits may be hidden.
 pub(crate) fn put_digits<P: PartSink>(
     digits: &FormattedAbsolute<'_, DecimalStore>,
     whole: PartKind,
+    is_hidden: bool,
     sink: &mut P,
 ) -> Result<(), SinkFault>
     ensures ok { OnOk result (Puts (P.pieces sink.old) (P.pieces sink.new)
-        (digit_pieces whole digits.now.symbols digits.now.strategy digits.now.value)) }
+        (digit_pieces is_hidden whole digits.now.symbols digits.now.strategy digits.now.value)) }
     ensures err { OnErr result (PutsPrefix (P.pieces sink.old) (P.pieces sink.new)
-        (digit_pieces whole digits.now.symbols digits.now.strategy digits.now.value)) }
+        (digit_pieces is_hidden whole digits.now.symbols digits.now.strategy digits.now.value)) }
     ensures failed { OnErr result (P.has_failed sink.new ≡ true) }
 {
     for below in 0..digits.shown_count() {
-        put_magnitude(digits, whole, below, sink)?;
+        put_magnitude(digits, whole, is_hidden, below, sink)?;
     }
     Ok(())
 }

@@ -8,7 +8,9 @@ use crate::format::default_digits::default_digits;
 use crate::format::outer::OuterTexts;
 use crate::format::text_part::PartKind;
 use crate::notation::{CompactExponents, Notation};
-use crate::options::{CurrencyDisplay, CurrencyStyle, NumberNotation, NumberOptions, NumberStyle};
+use crate::options::{
+    CurrencyDisplay, CurrencyStyle, GroupSizes, NumberNotation, NumberOptions, NumberStyle,
+};
 use decimal_format::{DecimalSymbols, GroupingSizes, GroupingStrategy};
 use fixed_decimal::SignDisplay;
 use locale_data::{
@@ -73,18 +75,22 @@ pub(crate) fn percent_kind(style: NumberStyle) -> PartKind
 #[inline(always)]
 pub(crate) fn style_sizes(
     pattern: &Pattern,
+    sizes: GroupSizes,
     strategy: GroupingStrategy,
     own: GroupingSizes,
 ) -> GroupingSizes
-    ensures { result ≡ style_sizes pattern.now strategy own }
+    ensures { result ≡ style_sizes pattern.now sizes strategy own }
 {
-    let primary = match strategy {
-        GroupingStrategy::Always if pattern.primary == 0 => 3,
-        _ => pattern.primary,
+    let (primary, secondary) = match (sizes, strategy) {
+        (GroupSizes::Thousands, _) => (3, 3),
+        (GroupSizes::Locale, GroupingStrategy::Always) if pattern.primary == 0 => {
+            (3, pattern.secondary)
+        }
+        (GroupSizes::Locale, _) => (pattern.primary, pattern.secondary),
     };
     GroupingSizes {
         primary,
-        secondary: pattern.secondary,
+        secondary,
         ..own
     }
 }

@@ -7,7 +7,8 @@ use crate::digits::options::DigitOptions;
 use crate::digits::settings::DigitSettings;
 use crate::options::{
     CompactLength, CurrencyDisplay, CurrencyStyle, CurrencyUsage, DecimalSeparatorDisplay,
-    ExponentOptions, ExponentSign, NumberNotation, NumberOptions, NumberStyle, UnitStyle,
+    ExponentOptions, ExponentSign, GroupSizes, NumberNotation, NumberOptions, NumberStyle,
+    UnitStyle,
 };
 use decimal_format::GroupingStrategy;
 use fixed_decimal::SignDisplay;
@@ -112,6 +113,7 @@ impl NumberOptions {
             digits: None,
             sign_display: SignDisplay::Auto,
             grouping: notation.default_grouping(),
+            group_sizes: GroupSizes::Locale,
             decimal_separator: DecimalSeparatorDisplay::Auto,
             numbering_system: None,
         }
@@ -251,6 +253,22 @@ impl NumberOptions {
         ensures { result ≡ record self { grouping = grouping } }
     {
         NumberOptions { grouping, ..self }
+    }
+
+    /// Returns the options with the groups of the locale, or with groups of three digits.
+    ///
+    /// ```
+    /// options
+    ///     .with_grouping(GroupingStrategy::Always)
+    ///     .with_group_sizes(GroupSizes::Thousands) // 1,234,567 in en-IN
+    /// ```
+    pub fn with_group_sizes(self, group_sizes: GroupSizes) -> NumberOptions
+        ensures { result ≡ record self { group_sizes = group_sizes } }
+    {
+        NumberOptions {
+            group_sizes,
+            ..self
+        }
     }
 
     /// Returns the options with a decimal separator before fraction digits only, or after the integer digits too.

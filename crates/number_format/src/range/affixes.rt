@@ -1,12 +1,13 @@
-//! What is written around a number of a range.
-ghost use Rattle.std.specs.{Prelude.{◌≡◌, ◌&&◌, ◌++◌, IfSome, true}, Option.option_copied};
-ghost use Rattle.locale_data.specs.Compact.{has_texts, AreTexts};
-ghost use Rattle.number_format.specs.{NumberText.{around_by, compact_around, compact_suffix}, PatternTexts.{pattern_around, space_if}, RangeText.{approximately_pieces, approximate_piece, approximate_affixes, approximate_pattern, approximate_first, approximate_last, approximate_compact, approximate_around}, TextParts.{part_pieces, parts_pieces}};
+//! What is written around an approximate number.
+ghost use Rattle.std.specs.{Prelude.{◌≡◌, ◌≤◌, ◌++◌, [], length, IfSome}, Option.option_copied};
+ghost use Rattle.locale_data.specs.Compact.{AreTexts};
+ghost use Rattle.number_format.specs.{FormattedNumbers.{around_of, pattern_of}, FormattedRanges.AreWideAffixes, PatternTexts.{affix_pieces, sign_pieces}, RangeText.{approximately_pieces, approximate_affixes, approximate_around, approximate_compact, approximate_pattern, approximate_piece, is_sign_last, pieces_if}, TextParts.{part_pieces, parts_pieces}};
 
 use crate::format::affixes::{StyleTexts, space_if};
+use crate::format::formatted_number::FormattedNumber;
 use crate::format::text_part::{PartKind, TextPart};
 use fixed_decimal::Sign;
-use locale_data::{AffixPair, AffixText, ApproximatelySign, CompactForm, CompactPattern, Piece};
+use locale_data::{Affix, AffixPair, ApproximatelySign, CompactForm, CompactPattern, Piece};
 
 /// An empty part.
 pub(crate) const NOTHING: TextPart<'static> = TextPart {
@@ -14,10 +15,43 @@ pub(crate) const NOTHING: TextPart<'static> = TextPart {
     text: "",
 };
 
+/// The parts before and after a number, exact or approximate.
+#[derive(Clone, Copy)]
+pub(crate) struct WideAffixes<'f> {
+    pub(crate) prefix: [TextPart<'f>; 10],
+    pub(crate) has_number: bool,
+    pub(crate) suffix: [TextPart<'f>; 10],
+}
+
+/// Returns no parts.
+pub(crate) fn no_parts<'f>() -> [TextPart<'f>; 10]
+    ensures { parts_pieces result ≡ [] }
+{
+    [
+        NOTHING, NOTHING, NOTHING, NOTHING, NOTHING, NOTHING, NOTHING, NOTHING, NOTHING, NOTHING,
+    ]
+}
+
+/// Returns parts, and empty ones after them.
+pub(crate) fn wide<'f>(parts: &[TextPart<'f>]) -> [TextPart<'f>; 10]
+    requires { length parts.now ≤ 10 }
+    ensures { parts_pieces result ≡ parts_pieces parts.now }
+{
+    let mut wide = no_parts();
+    wide[..parts.len()].copy_from_slice(parts);
+    wide
+}
+
 fn approximately_part(approximately: ApproximatelySign) -> TextPart<'static>
     ensures { part_pieces result ≡ approximately_pieces approximately }
 {
     TextPart::new(PartKind::ApproximatelySign, approximately.text())
+}
+
+fn is_sign_last(form: CompactForm) -> bool
+    ensures { result ≡ is_sign_last form }
+{
+    matches!(form, CompactForm::SignLast)
 }
 
 impl StyleTexts {
@@ -40,36 +74,6 @@ impl StyleTexts {
         }
     }
 
-    fn approximate_first(
-        &self,
-        approximately: ApproximatelySign,
-        sign: Sign,
-        form: CompactForm,
-    ) -> (TextPart<'_>, TextPart<'_>)
-        ensures { part_pieces result.0 ++ part_pieces result.1
-            ≡ approximate_first self.now approximately sign form }
-    {
-        match form {
-            CompactForm::SignLast => (NOTHING, NOTHING),
-            _ => (approximately_part(approximately), self.sign_part(sign)),
-        }
-    }
-
-    fn approximate_last(
-        &self,
-        approximately: ApproximatelySign,
-        sign: Sign,
-        form: CompactForm,
-    ) -> (TextPart<'_>, TextPart<'_>)
-        ensures { part_pieces result.0 ++ part_pieces result.1
-            ≡ approximate_last self.now approximately sign form }
-    {
-        match form {
-            CompactForm::SignLast => (approximately_part(approximately), self.sign_part(sign)),
-            _ => (NOTHING, NOTHING),
-        }
-    }
-
     fn approximate_pair(&self, sign: Sign) -> AffixPair
         ensures { result ≡ approximate_affixes self.now.pattern sign }
     {
@@ -79,216 +83,143 @@ impl StyleTexts {
         }
     }
 
-    fn pattern_prefix(&self, sign: Sign) -> [TextPart<'_>; 9]
-        ensures { parts_pieces result ≡ (pattern_around self.now sign).prefix }
-    {
-        let prefix = self.pattern.affixes(sign).prefix;
-        [
-            self.pattern_part(prefix.first),
-            self.pattern_part(prefix.second),
-            self.pattern_part(prefix.third),
-            self.pattern_part(prefix.fourth),
-            space_if(self.needs_space_after(prefix)),
-            NOTHING,
-            NOTHING,
-            NOTHING,
-            NOTHING,
-        ]
-    }
-
-    fn pattern_suffix(&self, sign: Sign) -> [TextPart<'_>; 9]
-        ensures { parts_pieces result ≡ (pattern_around self.now sign).suffix }
-    {
-        let suffix = self.pattern.affixes(sign).suffix;
-        [
-            space_if(self.needs_space_before(suffix)),
-            self.pattern_part(suffix.first),
-            self.pattern_part(suffix.second),
-            self.pattern_part(suffix.third),
-            self.pattern_part(suffix.fourth),
-            NOTHING,
-            NOTHING,
-            NOTHING,
-            NOTHING,
-        ]
-    }
-
-    fn compact_prefix(&self, sign: Sign, pattern: &CompactPattern) -> [TextPart<'_>; 9]
-        requires { AreTexts pattern.now }
-        ensures { parts_pieces result ≡ (compact_around self.now sign pattern.now).prefix }
-    {
-        let form = pattern.form;
-        let prefix = &pattern.prefix;
-        [
-            self.first_sign(sign, form),
-            TextPart::new(PartKind::Compact, prefix.before_text()),
-            self.currency_if(prefix.has_currency),
-            TextPart::new(PartKind::Compact, prefix.after_text()),
-            space_if(self.space_after(prefix)),
-            self.last_sign(sign, form),
-            NOTHING,
-            NOTHING,
-            NOTHING,
-        ]
-    }
-
-    fn compact_suffix(&self, suffix: &AffixText) -> [TextPart<'_>; 9]
-        requires { has_texts suffix.now ≡ true }
-        ensures { parts_pieces result ≡ compact_suffix self.now suffix.now }
-    {
-        [
-            space_if(self.space_before(suffix)),
-            TextPart::new(PartKind::Compact, suffix.before_text()),
-            self.currency_if(suffix.has_currency),
-            TextPart::new(PartKind::Compact, suffix.after_text()),
-            NOTHING,
-            NOTHING,
-            NOTHING,
-            NOTHING,
-            NOTHING,
-        ]
-    }
-
-    /// Returns the parts before a number that is shown with a sign.
-    pub(crate) fn range_prefix(
-        &self,
+    /// Returns the pieces of an affix between two parts.
+    fn approximate_parts<'t>(
+        &'t self,
+        approximately: ApproximatelySign,
         sign: Sign,
-        compact: Option<&CompactPattern>,
-    ) -> [TextPart<'_>; 9]
-        requires { IfSome compact (λ pattern. AreTexts pattern.now) }
-        ensures { parts_pieces result ≡ (around_by self.now sign (option_copied compact.entry)).prefix }
+        affix: Affix,
+        before: TextPart<'t>,
+        after: TextPart<'t>,
+    ) -> [TextPart<'t>; 10]
+        ensures { parts_pieces result ≡ part_pieces before.entry ++ (affix_pieces
+            (approximate_piece self.now approximately sign) affix ++ part_pieces after.entry) }
     {
-        match compact {
-            Some(pattern) if !matches!(pattern.form, CompactForm::Plain) => {
-                self.compact_prefix(sign, pattern)
-            }
-            _ => self.pattern_prefix(sign),
+        let one = self.approximate_piece(approximately, sign, affix.first);
+        let two = self.approximate_piece(approximately, sign, affix.second);
+        let three = self.approximate_piece(approximately, sign, affix.third);
+        let four = self.approximate_piece(approximately, sign, affix.fourth);
+        [
+            before, one.0, one.1, two.0, two.1, three.0, three.1, four.0, four.1, after,
+        ]
+    }
+
+    fn approximate_pattern(&self, approximately: ApproximatelySign, sign: Sign) -> WideAffixes<'_>
+        ensures { AreWideAffixes (approximate_pattern self.now approximately sign) result }
+    {
+        let AffixPair { prefix, suffix } = self.approximate_pair(sign);
+        let after = space_if(self.needs_space_after(prefix));
+        let before = space_if(self.needs_space_before(suffix));
+        WideAffixes {
+            prefix: self.approximate_parts(approximately, sign, prefix, NOTHING, after),
+            has_number: true,
+            suffix: self.approximate_parts(approximately, sign, suffix, before, NOTHING),
         }
     }
 
-    /// Returns the parts after a number that is shown with a sign.
-    pub(crate) fn range_suffix(
+    /// Returns the approximately sign and a sign, if they are shown.
+    fn approximate_sign(
         &self,
+        approximately: ApproximatelySign,
         sign: Sign,
-        compact: Option<&CompactPattern>,
-    ) -> [TextPart<'_>; 9]
-        requires { IfSome compact (λ pattern. AreTexts pattern.now) }
-        ensures { parts_pieces result ≡ (around_by self.now sign (option_copied compact.entry)).suffix }
+        shown: bool,
+    ) -> (TextPart<'_>, TextPart<'_>)
+        ensures { part_pieces result.0 ++ part_pieces result.1
+            ≡ pieces_if shown (approximately_pieces approximately ++ sign_pieces self.now.symbols sign) }
     {
-        match compact {
-            Some(pattern) if !matches!(pattern.form, CompactForm::Plain) => {
-                self.compact_suffix(&pattern.suffix)
-            }
-            _ => self.pattern_suffix(sign),
+        if shown {
+            (approximately_part(approximately), self.sign_part(sign))
+        } else {
+            (NOTHING, NOTHING)
         }
     }
 
-    fn approximate_pattern_prefix(
-        &self,
-        approximately: ApproximatelySign,
-        sign: Sign,
-    ) -> [TextPart<'_>; 9]
-        ensures { parts_pieces result ≡ (approximate_pattern self.now approximately sign).prefix }
-    {
-        let prefix = self.approximate_pair(sign).prefix;
-        let one = self.approximate_piece(approximately, sign, prefix.first);
-        let two = self.approximate_piece(approximately, sign, prefix.second);
-        let three = self.approximate_piece(approximately, sign, prefix.third);
-        let four = self.approximate_piece(approximately, sign, prefix.fourth);
-        let space = space_if(self.needs_space_after(prefix));
-        [
-            one.0, one.1, two.0, two.1, three.0, three.1, four.0, four.1, space,
-        ]
-    }
-
-    fn approximate_pattern_suffix(
-        &self,
-        approximately: ApproximatelySign,
-        sign: Sign,
-    ) -> [TextPart<'_>; 9]
-        ensures { parts_pieces result ≡ (approximate_pattern self.now approximately sign).suffix }
-    {
-        let suffix = self.approximate_pair(sign).suffix;
-        let one = self.approximate_piece(approximately, sign, suffix.first);
-        let two = self.approximate_piece(approximately, sign, suffix.second);
-        let three = self.approximate_piece(approximately, sign, suffix.third);
-        let four = self.approximate_piece(approximately, sign, suffix.fourth);
-        let space = space_if(self.needs_space_before(suffix));
-        [
-            space, one.0, one.1, two.0, two.1, three.0, three.1, four.0, four.1,
-        ]
-    }
-
-    fn approximate_compact_prefix(
+    fn approximate_compact(
         &self,
         approximately: ApproximatelySign,
         sign: Sign,
         pattern: &CompactPattern,
-    ) -> [TextPart<'_>; 9]
+    ) -> WideAffixes<'_>
         requires { AreTexts pattern.now }
-        ensures { parts_pieces result ≡ (approximate_compact self.now approximately sign pattern.now).prefix }
+        ensures { AreWideAffixes (approximate_compact self.now approximately sign pattern.now) result }
     {
-        let prefix = &pattern.prefix;
-        let first = self.approximate_first(approximately, sign, pattern.form);
-        let last = self.approximate_last(approximately, sign, pattern.form);
-        [
-            first.0,
-            first.1,
-            TextPart::new(PartKind::Compact, prefix.before_text()),
-            self.currency_if(prefix.has_currency),
-            TextPart::new(PartKind::Compact, prefix.after_text()),
-            space_if(self.space_after(prefix)),
-            last.0,
-            last.1,
-            NOTHING,
-        ]
-    }
-
-    /// Returns the parts before a number, with an approximately sign.
-    pub(crate) fn approximate_prefix(
-        &self,
-        approximately: ApproximatelySign,
-        sign: Sign,
-        compact: Option<&CompactPattern>,
-    ) -> [TextPart<'_>; 9]
-        requires { IfSome compact (λ pattern. AreTexts pattern.now) }
-        ensures { parts_pieces result
-            ≡ (approximate_around self.now approximately sign (option_copied compact.entry)).prefix }
-    {
-        match compact {
-            Some(pattern) if !matches!(pattern.form, CompactForm::Plain) => {
-                self.approximate_compact_prefix(approximately, sign, pattern)
-            }
-            _ => self.approximate_pattern_prefix(approximately, sign),
+        let CompactPattern {
+            form,
+            prefix,
+            suffix,
+            ..
+        } = *pattern;
+        let first = self.approximate_sign(approximately, sign, !is_sign_last(form));
+        let last = self.approximate_sign(approximately, sign, is_sign_last(form));
+        WideAffixes {
+            prefix: [
+                first.0,
+                first.1,
+                TextPart::new(PartKind::Compact, prefix.before_text()),
+                self.currency_if(prefix.has_currency),
+                TextPart::new(PartKind::Compact, prefix.after_text()),
+                space_if(self.space_after(&prefix)),
+                last.0,
+                last.1,
+                NOTHING,
+                NOTHING,
+            ],
+            has_number: !matches!(form, CompactForm::Literal),
+            suffix: [
+                space_if(self.space_before(&suffix)),
+                TextPart::new(PartKind::Compact, suffix.before_text()),
+                self.currency_if(suffix.has_currency),
+                TextPart::new(PartKind::Compact, suffix.after_text()),
+                NOTHING,
+                NOTHING,
+                NOTHING,
+                NOTHING,
+                NOTHING,
+                NOTHING,
+            ],
         }
     }
 
-    /// Returns the parts after a number, with an approximately sign.
-    pub(crate) fn approximate_suffix(
+    fn approximate_affixes(
         &self,
         approximately: ApproximatelySign,
         sign: Sign,
         compact: Option<&CompactPattern>,
-    ) -> [TextPart<'_>; 9]
+    ) -> WideAffixes<'_>
         requires { IfSome compact (λ pattern. AreTexts pattern.now) }
-        ensures { parts_pieces result
-            ≡ (approximate_around self.now approximately sign (option_copied compact.entry)).suffix }
+        ensures { AreWideAffixes
+            (approximate_around self.now approximately sign (option_copied compact.entry)) result }
     {
         match compact {
             Some(pattern) if !matches!(pattern.form, CompactForm::Plain) => {
-                self.compact_suffix(&pattern.suffix)
+                self.approximate_compact(approximately, sign, pattern)
             }
-            _ => self.approximate_pattern_suffix(approximately, sign),
+            _ => self.approximate_pattern(approximately, sign),
         }
     }
 }
 
-/// Returns whether a number is written between the affixes.
-pub(crate) fn shows_number(compact: Option<&CompactPattern>) -> bool
-    ensures { (t : StyleTexts) (s : Sign) → result ≡ (around_by t s (option_copied compact.entry)).has_number }
-{
-    match compact {
-        Some(pattern) => !matches!(pattern.form, CompactForm::Literal),
-        None => true,
+impl FormattedNumber<'_> {
+    /// Returns the parts around the number.
+    pub(crate) fn wide_affixes(&self) -> WideAffixes<'_>
+        ensures { AreWideAffixes (around_of self.now) result }
+    {
+        let affixes = self.affixes();
+        let prefix = wide(&affixes.prefix);
+        let suffix = wide(&affixes.suffix);
+        WideAffixes {
+            prefix,
+            has_number: affixes.has_number,
+            suffix,
+        }
+    }
+
+    /// Returns the parts around the number, with an approximately sign.
+    pub(crate) fn approximate_affixes(&self, approximately: ApproximatelySign) -> WideAffixes<'_>
+        ensures { AreWideAffixes (approximate_around self.now.formatter.now.style approximately
+            self.now.value.sign (pattern_of self.now)) result }
+    {
+        let style = &self.formatter.style;
+        style.approximate_affixes(approximately, self.value.sign, self.compact_pattern())
     }
 }

@@ -1,91 +1,33 @@
 //! What the two numbers of a range have in common.
-ghost use Rattle.std.specs.{Prelude.{◌≡◌, ◌≤◌, length, IfSome}, Option.option_copied};
-ghost use Rattle.locale_data.specs.Compact.{AreTexts};
-ghost use Rattle.number_format.specs.{FormattedRanges.{end_of, AreBareParts}, RangeText.{are_same_texts, bare_around, bare_compact, bare_pattern, bare_texts, both_or_neither, characters, characters_around}};
+ghost use Rattle.std.specs.Prelude.{◌≡◌, ◌≤◌, length};
+ghost use Rattle.number_format.specs.{FormattedRanges.end_of, RangeText.{are_same_texts, bare_texts, both_or_neither, characters, characters_around, without_spaces}};
 
 use crate::format::affixes::StyleTexts;
+use crate::format::currency::ShownCurrency;
 use crate::format::formatted_number::FormattedNumber;
 use crate::format::short_affixes::ShortAffixes;
-use crate::format::text_part::{PartKind, TextPart};
-use crate::range::affixes::NOTHING;
-use fixed_decimal::Sign;
-use locale_data::{AffixPair, CompactForm, CompactPattern};
-
-/// The parts around a number, without the spaces between a currency and a digit.
-#[derive(Clone, Copy)]
-pub(crate) struct BareParts<'f> {
-    pub(crate) prefix: [TextPart<'f>; 5],
-    pub(crate) has_number: bool,
-    pub(crate) suffix: [TextPart<'f>; 4],
-}
 
 /// The texts around a number, without the spaces between a currency and a digit.
 #[derive(Drop)]
 pub(crate) struct BareTexts {
-    pub(crate) affixes: ShortAffixes<1275>,
+    pub(crate) affixes: ShortAffixes<1530>,
     pub(crate) has_number: bool,
 }
 
 impl StyleTexts {
-    fn bare_pattern(&self, sign: Sign) -> BareParts<'_>
-        ensures { AreBareParts (bare_pattern self.now sign) result }
+    fn without_spaces(&self) -> StyleTexts
+        ensures { result ≡ without_spaces self.now }
     {
-        let AffixPair { prefix, suffix } = self.pattern.affixes(sign);
-        BareParts {
-            prefix: [
-                self.pattern_part(prefix.first),
-                self.pattern_part(prefix.second),
-                self.pattern_part(prefix.third),
-                self.pattern_part(prefix.fourth),
-                NOTHING,
-            ],
-            has_number: true,
-            suffix: [
-                self.pattern_part(suffix.first),
-                self.pattern_part(suffix.second),
-                self.pattern_part(suffix.third),
-                self.pattern_part(suffix.fourth),
-            ],
-        }
-    }
-
-    fn bare_compact(&self, sign: Sign, pattern: &CompactPattern) -> BareParts<'_>
-        requires { AreTexts pattern.now }
-        ensures { AreBareParts (bare_compact self.now sign pattern.now) result }
-    {
-        let CompactPattern {
-            form,
-            prefix,
-            suffix,
-            ..
-        } = *pattern;
-        BareParts {
-            prefix: [
-                self.first_sign(sign, form),
-                TextPart::new(PartKind::Compact, prefix.before_text()),
-                self.currency_if(prefix.has_currency),
-                TextPart::new(PartKind::Compact, prefix.after_text()),
-                self.last_sign(sign, form),
-            ],
-            has_number: !matches!(form, CompactForm::Literal),
-            suffix: [
-                TextPart::new(PartKind::Compact, suffix.before_text()),
-                self.currency_if(suffix.has_currency),
-                TextPart::new(PartKind::Compact, suffix.after_text()),
-                NOTHING,
-            ],
-        }
-    }
-
-    fn bare_affixes(&self, sign: Sign, compact: Option<&CompactPattern>) -> BareParts<'_>
-        requires { IfSome compact (λ pattern. AreTexts pattern.now) }
-        ensures { AreBareParts (bare_around self.now sign (option_copied compact.entry)) result }
-    {
-        match compact {
-            Some(pattern) if !matches!(pattern.form, CompactForm::Plain) => {
-                self.bare_compact(sign, pattern)
-            }
-            _ => self.bare_pattern(sign),
+        let currency = ShownCurrency {
+            space_before: false,
+            space_after: false,
+            ..self.currency
+        };
+        StyleTexts {
+            symbols: self.symbols.copied(),
+            pattern: self.pattern,
+            percent: self.percent,
+            currency,
         }
     }
 }
@@ -111,8 +53,8 @@ impl BareTexts {
     pub(crate) fn of(number: &FormattedNumber<'_>) -> BareTexts
         ensures { result ≡ bare_texts (end_of number.now) }
     {
-        let style = &number.formatter.style;
-        let parts = style.bare_affixes(number.value.sign, number.compact_pattern());
+        let style = number.formatter.style.without_spaces();
+        let parts = style.affixes(number.value.sign, number.compact_pattern());
         match ShortAffixes::joined(&parts.prefix, &parts.suffix) {
             Some(affixes) => BareTexts {
                 affixes,

@@ -1,6 +1,6 @@
 //! How the two numbers of a range are written.
 ghost use Rattle.std.specs.Prelude.{◌≡◌};
-ghost use Rattle.number_format.specs.{FormattedRanges.end_of, RangeText.{form_by, has_exponent, is_apart, needs_spaces, written_exponent}};
+ghost use Rattle.number_format.specs.{FormattedRanges.end_of, RangeText.{bare_texts, form_by, has_exponent, is_apart, needs_spaces, written_exponent}};
 
 use crate::format::formatted_number::FormattedNumber;
 use crate::options::NumberNotation;
@@ -37,16 +37,17 @@ fn written_exponent(number: &FormattedNumber<'_>) -> i32
 }
 
 /// Returns how two numbers are written, given whether they are equal before they are rounded, and whether both or
-/// neither are negative.
+/// neither are negative. The texts are those around the first number.
 pub(crate) fn form_by(
+    texts: &BareTexts,
     are_equal: bool,
     have_same_sign: bool,
     start: &FormattedNumber<'_>,
     end: &FormattedNumber<'_>,
 ) -> RangeForm
+    requires { texts.now ≡ bare_texts (end_of start.now) }
     ensures { result ≡ form_by are_equal have_same_sign (end_of start.now) (end_of end.now) }
 {
-    let texts = BareTexts::of(start);
     if !texts.are_same(&BareTexts::of(end)) {
         return RangeForm::Apart;
     }
@@ -68,10 +69,10 @@ fn is_apart(form: RangeForm) -> bool
     matches!(form, RangeForm::Apart)
 }
 
-/// Returns whether the separator has spaces beside it.
-pub(crate) fn needs_spaces(form: RangeForm, start: &FormattedNumber<'_>) -> bool
+/// Returns whether the separator has spaces beside it. The texts are those around the first number.
+pub(crate) fn needs_spaces(form: RangeForm, texts: &BareTexts, start: &FormattedNumber<'_>) -> bool
+    requires { texts.now ≡ bare_texts (end_of start.now) }
     ensures { result ≡ needs_spaces form (end_of start.now) }
 {
-    has_exponent(start.formatter.options.notation)
-        || (is_apart(form) && BareTexts::of(start).characters() > 0)
+    has_exponent(start.formatter.options.notation) || (is_apart(form) && texts.characters() > 0)
 }

@@ -1,13 +1,11 @@
 //! Formatting of a range of two numbers.
-ghost use Rattle.std.specs.Prelude.{◌≡◌, ◌⊎◌, None, IfOk, IfErr};
-ghost use Rattle.decimal_unsigned.specs.declared.decimal.TheConstants.{INLINE_DIGITS};
-ghost use Rattle.fixed_decimal.specs.DecimalText.{IsLong};
-ghost use Rattle.number_format.specs.{FormattedRanges.{IsFormattedEnd, end_of, formatted_range_text, shown_range}, NumberText.{shown_number, is_negative, FormattingNeedsMemory}, RangeText.{are_equal, have_same_sign, range_by, range_category, IsRange, IsRangeText}};
+ghost use Rattle.std.specs.Prelude.{◌≡◌, None, IfOk, IfErr};
+ghost use Rattle.number_format.specs.{FormattedRanges.{IsFormattedEnd, end_of, formatted_range_text, shown_range}, NumberText.{shown_number, is_negative, FormattingNeedsMemory}, RangeText.{are_equal, have_same_sign, needs_spaces, range_by, range_category, IsRange, IsRangeText, RangeFormattingFails}};
 
 use crate::format::format_number::FormatError;
 use crate::format::formatted_number::{FormattedNumber, displayed_sign};
 use crate::format::formatter::NumberFormatter;
-use crate::range::common::are_both_or_neither;
+use crate::range::common::{BareTexts, are_both_or_neither};
 use crate::range::form::{RangeForm, form_by, needs_spaces};
 use crate::range::formatted_range::FormattedRange;
 use crate::range::range_texts::RangeTexts;
@@ -23,6 +21,8 @@ use std::alloc::Global;
 pub struct RangeFormatError {
     /// The error.
     pub error: RoundError,
+    /// Whether it is the error of the second number. If it is not, the second number may have one too.
+    pub at_end: bool,
     /// The first number.
     pub start: Decimal,
     /// The second number.
@@ -64,13 +64,14 @@ fn range_category(
 fn range_by<'f>(
     texts: &RangeTexts<'_>,
     form: RangeForm,
+    spaced: bool,
     mut start: FormattedNumber<'f>,
     end: FormattedNumber<'f>,
 ) -> FormattedRange<'f>
+    requires { spaced ≡ needs_spaces form (end_of start) }
     ensures { shown_range result ≡ range_by texts.now form (end_of start.entry) (end_of end.entry)
         start.entry.whole end.entry.whole }
 {
-    let spaced = needs_spaces(form, &start);
     start.whole = range_category(texts.tag, form, start.whole, end.whole);
     FormattedRange {
         start,
@@ -125,8 +126,8 @@ impl NumberFormatter {
     ///
     /// # Errors
     ///
-    /// Both numbers, unchanged, and the error of [`format`](Self::format) of one of them. The first number is formatted
-    /// first. It is copied before: `Memory` is also for a copy of more than `INLINE_DIGITS` digits.
+    /// Both numbers, unchanged, and the error of [`format`](Self::format) of the first one, or else of the second one. The
+    /// first number is copied before: `Memory` is also for a copy of more than `INLINE_DIGITS` digits.
     ///
     /// ```
     /// let formatter = NumberFormatter::for_ranges("en", options)?;
@@ -143,15 +144,15 @@ impl NumberFormatter {
         ensures range { IfOk result (λ r. IsRange self.now texts.now start end (shown_range r)) }
         ensures text { IfOk result (λ r. IsRangeText self.now texts.now start end (formatted_range_text r)) }
         ensures unchanged { IfErr result (λ e. (e.start ≡ start) × (e.end ≡ end)) }
-        ensures limit { IfErr result (λ e. e.error ≡ RoundError.Limit
-            → (shown_number self.now start ≡ None) ⊎ (shown_number self.now end ≡ None)) }
-        ensures memory { IfErr result (λ e. e.error ≡ RoundError.Memory
-            → IsLong INLINE_DIGITS start ⊎ (FormattingNeedsMemory self.now start
-            ⊎ FormattingNeedsMemory self.now end)) }
+        ensures fails { IfErr result (λ e. RangeFormattingFails self.now start end e.at_end e.error) }
     {
         let Ok(kept) = start.clone() else {
-            let error = RoundError::Memory;
-            return Err(RangeFormatError { error, start, end });
+            return Err(RangeFormatError {
+                error: RoundError::Memory,
+                at_end: false,
+                start,
+                end,
+            });
         };
         let equal = are_equal(&start, &end);
         let same_sign = have_same_sign(&start, &end);
@@ -160,6 +161,7 @@ impl NumberFormatter {
             Err(FormatError { error, value }) => {
                 return Err(RangeFormatError {
                     error,
+                    at_end: false,
                     start: value,
                     end,
                 });
@@ -170,12 +172,15 @@ impl NumberFormatter {
             Err(FormatError { error, value }) => {
                 return Err(RangeFormatError {
                     error,
+                    at_end: true,
                     start: kept,
                     end: value,
                 });
             }
         };
-        let form = form_by(equal, same_sign, &first, &second);
-        Ok(range_by(texts, form, first, second))
+        let around = BareTexts::of(&first);
+        let form = form_by(&around, equal, same_sign, &first, &second);
+        let spaced = needs_spaces(form, &around, &first);
+        Ok(range_by(texts, form, spaced, first, second))
     }
 }

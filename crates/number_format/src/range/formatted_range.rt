@@ -1,16 +1,14 @@
 //! A range of two numbers as a locale writes it.
 ghost use Rattle.std.specs.{Prelude.{◌≡◌, ◌≤◌, length, Some, OnOk, OnErr, true}, Fmt.WritesStyledOnOk, Io.KnownBytes.Appends};
 ghost use Rattle.decimal_digits.specs.AppendsPrefix.{AppendsPrefix};
-ghost use Rattle.number_format.specs.{FormattedNumbers.{around_of, outer_of, pattern_of, IsOuter}, FormattedRanges.{end_of, formatted_range_pieces, formatted_range_text, inner_pieces, pieces_in, segment_pieces, segment_text, shown_range, source_of, text_from_end, text_from_start}, PatternTexts.within, RangeText.{approximate_around, end_number, pieces_by}, TextParts.{Puts, PutsPrefix, parts_pieces, pieces_text}};
+ghost use Rattle.number_format.specs.{FormattedNumbers.{outer_of, IsOuter}, FormattedRanges.{formatted_range_pieces, formatted_range_text, pieces_in, segment_pieces, segment_text, shown_range, source_of, text_from_middle}, RangeText.pieces_by, TextParts.{Puts, PutsPrefix, pieces_text}};
 ghost use Rattle.number_format.specs.declared.range.form.RangeForm.TheVariants as form;
 
 use crate::format::formatted_number::FormattedNumber;
 use crate::format::outer::OuterAround;
 use crate::format::parts::PartSink;
-use crate::format::text_part::TextPart;
-use crate::range::affixes::shows_number;
 use crate::range::form::RangeForm;
-use crate::range::segment::{InnerSegment, Segment};
+use crate::range::segment::Segment;
 use fixed_decimal::{Sink, SinkFault, Writeable};
 use locale_data::RangeFormat;
 use std::fmt;
@@ -33,8 +31,6 @@ pub enum RangeSource {
 pub enum RangeSegment {
     /// What is before both numbers.
     Prefix,
-    /// The text of a unit before the numbers.
-    OuterPrefix,
     /// The first number, with what is around it alone.
     Start,
     /// The separator; or an approximate number, instead of two numbers.
@@ -43,20 +39,16 @@ pub enum RangeSegment {
     End,
     /// What is after both numbers.
     Suffix,
-    /// The text of a unit after the numbers.
-    OuterSuffix,
 }
 
 impl RangeSegment {
     /// The segments, in the order of the text.
-    pub const ALL: [RangeSegment; 7] = [
+    pub const ALL: [RangeSegment; 5] = [
         RangeSegment::Prefix,
-        RangeSegment::OuterPrefix,
         RangeSegment::Start,
         RangeSegment::Middle,
         RangeSegment::End,
         RangeSegment::Suffix,
-        RangeSegment::OuterSuffix,
     ];
 
     /// Returns to which number the parts of a segment belong.
@@ -104,83 +96,39 @@ impl<'f> FormattedRange<'f> {
         self.start.outer_around()
     }
 
-    fn approximate_number(&self) -> InnerSegment<'_, 'f>
-        ensures { inner_pieces result ≡ within
-            (approximate_around self.now.start.formatter.now.style self.now.format.approximately
-            self.now.start.value.sign (pattern_of self.now.start)) (end_number (end_of self.now.start)) }
-    {
-        let number = &self.start;
-        let formatter = number.formatter;
-        let style = &formatter.style;
-        let approximately = self.format.approximately;
-        let pattern = number.compact_pattern();
-        let prefix = style.approximate_prefix(approximately, number.value.sign, pattern);
-        let suffix = style.approximate_suffix(approximately, number.value.sign, pattern);
-        InnerSegment {
-            prefix,
-            number,
-            has_number: shows_number(pattern),
-            suffix,
-        }
-    }
-
     fn approximate_segment(&self, segment: RangeSegment) -> Segment<'_, 'f>
         ensures { segment_pieces result ≡ pieces_in (pieces_by form.Approximate (shown_range self.now)) segment }
     {
         let outer = self.outer();
         let start = &self.start;
         match segment {
-            RangeSegment::OuterPrefix => Segment::of_outer(start, outer, false),
+            RangeSegment::Prefix => Segment::shared(start, &[], outer, false),
             RangeSegment::Middle if outer.has_number => {
-                Segment::of_inner(self.approximate_number())
+                Segment::approximate(start, self.format.approximately)
             }
-            RangeSegment::OuterSuffix => Segment::of_outer(start, outer, true),
-            _ => Segment::empty(start),
+            RangeSegment::Suffix => Segment::shared(start, &[], outer, true),
+            _ => Segment::digits_if(start, false),
         }
-    }
-
-    fn common_prefix(&self) -> [TextPart<'f>; 9]
-        ensures { parts_pieces result ≡ (around_of self.now.start).prefix }
-    {
-        let start = &self.start;
-        let formatter = start.formatter;
-        let style = &formatter.style;
-        style.range_prefix(start.value.sign, start.compact_pattern())
-    }
-
-    fn common_suffix(&self) -> [TextPart<'f>; 9]
-        ensures { parts_pieces result ≡ (around_of self.now.start).suffix }
-    {
-        let start = &self.start;
-        let formatter = start.formatter;
-        let style = &formatter.style;
-        style.range_suffix(start.value.sign, start.compact_pattern())
-    }
-
-    fn has_common_number(&self) -> bool
-        ensures { result ≡ (around_of self.now.start).has_number }
-    {
-        shows_number(self.start.compact_pattern())
     }
 
     fn common_segment(&self, segment: RangeSegment) -> Segment<'_, 'f>
         ensures { segment_pieces result ≡ pieces_in (pieces_by form.Common (shown_range self.now)) segment }
     {
         let outer = self.outer();
-        let has_number = outer.has_number && self.has_common_number();
         let start = &self.start;
+        let affixes = start.affixes();
+        let shown = outer.has_number && affixes.has_number;
         match segment {
-            RangeSegment::Prefix => Segment::parts_if(start, self.common_prefix(), true),
-            RangeSegment::OuterPrefix => Segment::of_outer(start, outer, false),
-            RangeSegment::Start => Segment::number_if(start, has_number),
+            RangeSegment::Prefix => Segment::shared(start, &affixes.prefix, outer, false),
+            RangeSegment::Start => Segment::digits_if(start, shown),
             RangeSegment::Middle => {
-                Segment::separator_if(start, self.format.separator, self.spaced, has_number)
+                Segment::separator_if(start, self.format.separator, self.spaced, shown)
             }
-            RangeSegment::End => Segment::number_if(&self.end, has_number),
-            RangeSegment::Suffix => {
-                Segment::parts_if(start, self.common_suffix(), outer.has_number)
+            RangeSegment::End => Segment::digits_if(&self.end, shown),
+            RangeSegment::Suffix if outer.has_number => {
+                Segment::shared(start, &affixes.suffix, outer, true)
             }
-            RangeSegment::OuterSuffix => Segment::of_outer(start, outer, true),
+            RangeSegment::Suffix => Segment::shared(start, &[], outer, true),
         }
     }
 
@@ -189,16 +137,15 @@ impl<'f> FormattedRange<'f> {
     {
         let outer = self.outer();
         let start = &self.start;
+        let shown = outer.has_number;
         match segment {
-            RangeSegment::OuterPrefix => Segment::of_outer(start, outer, false),
-            RangeSegment::Start => Segment::whole_if(start, outer.has_number),
+            RangeSegment::Prefix => Segment::shared(start, &[], outer, false),
+            RangeSegment::Start => Segment::number_if(start, shown),
             RangeSegment::Middle => {
-                let separator = self.format.separator;
-                Segment::separator_if(start, separator, self.spaced, outer.has_number)
+                Segment::separator_if(start, self.format.separator, self.spaced, shown)
             }
-            RangeSegment::End => Segment::whole_if(&self.end, outer.has_number),
-            RangeSegment::OuterSuffix => Segment::of_outer(start, outer, true),
-            RangeSegment::Prefix | RangeSegment::Suffix => Segment::empty(start),
+            RangeSegment::End => Segment::number_if(&self.end, shown),
+            RangeSegment::Suffix => Segment::shared(start, &[], outer, true),
         }
     }
 
@@ -215,7 +162,7 @@ impl<'f> FormattedRange<'f> {
 
     fn segment_length(&self, segment: RangeSegment) -> usize
         ensures value { result ≡ length (pieces_text (formatted_range_pieces self.now segment)) }
-        ensures at_most { result ≤ 17242853 }
+        ensures at_most { result ≤ 17243363 }
     {
         self.segment(segment).length()
     }
@@ -241,20 +188,12 @@ impl<'f> FormattedRange<'f> {
         self.segment(segment).fmt(f)
     }
 
-    fn fmt_from_end<W: fmt::Write>(&self, f: &mut fmt::Formatter<W>) -> fmt::Result
-        ensures { WritesStyledOnOk W.write_str_gives f.old result (text_from_end self.now) f.new }
+    fn fmt_from_middle<W: fmt::Write>(&self, f: &mut fmt::Formatter<W>) -> fmt::Result
+        ensures { WritesStyledOnOk W.write_str_gives f.old result (text_from_middle self.now) f.new }
     {
-        self.fmt_segment(RangeSegment::End, f)?;
-        self.fmt_segment(RangeSegment::Suffix, f)?;
-        self.fmt_segment(RangeSegment::OuterSuffix, f)
-    }
-
-    fn fmt_from_start<W: fmt::Write>(&self, f: &mut fmt::Formatter<W>) -> fmt::Result
-        ensures { WritesStyledOnOk W.write_str_gives f.old result (text_from_start self.now) f.new }
-    {
-        self.fmt_segment(RangeSegment::Start, f)?;
         self.fmt_segment(RangeSegment::Middle, f)?;
-        self.fmt_from_end(f)
+        self.fmt_segment(RangeSegment::End, f)?;
+        self.fmt_segment(RangeSegment::Suffix, f)
     }
 
     /// Puts the pieces of a segment of the text with their kinds into a sink, which is any [`PartSink`]. It does not
@@ -299,23 +238,19 @@ impl<'f> Writeable for FormattedRange<'f> {
             return Err(SinkFault);
         }
         self.write_segment(RangeSegment::Prefix, sink)?;
-        self.write_segment(RangeSegment::OuterPrefix, sink)?;
         self.write_segment(RangeSegment::Start, sink)?;
         self.write_segment(RangeSegment::Middle, sink)?;
         self.write_segment(RangeSegment::End, sink)?;
-        self.write_segment(RangeSegment::Suffix, sink)?;
-        self.write_segment(RangeSegment::OuterSuffix, sink)
+        self.write_segment(RangeSegment::Suffix, sink)
     }
 
     /// Returns the exact number of bytes of the text.
     fn writeable_length_hint(&self) -> usize {
         self.segment_length(RangeSegment::Prefix)
-            + self.segment_length(RangeSegment::OuterPrefix)
             + self.segment_length(RangeSegment::Start)
             + self.segment_length(RangeSegment::Middle)
             + self.segment_length(RangeSegment::End)
             + self.segment_length(RangeSegment::Suffix)
-            + self.segment_length(RangeSegment::OuterSuffix)
     }
 }
 
@@ -331,7 +266,7 @@ impl<'f> fmt::Display for FormattedRange<'f> {
     /// The formatter fails.
     fn fmt<W: fmt::Write>(&self, f: &mut fmt::Formatter<W>) -> fmt::Result {
         self.fmt_segment(RangeSegment::Prefix, f)?;
-        self.fmt_segment(RangeSegment::OuterPrefix, f)?;
-        self.fmt_from_start(f)
+        self.fmt_segment(RangeSegment::Start, f)?;
+        self.fmt_from_middle(f)
     }
 }

@@ -6,6 +6,7 @@ ghost use Rattle.number_format.specs.{AffixedTexts.AreNamed, NumberReading.{Keep
 use crate::digits::options::DigitOptions;
 use crate::digits::precision::Precision;
 use crate::format::formatter::NumberFormatter;
+use crate::format::fraction::needs_no_integer;
 use crate::format::outer::OuterTexts;
 use crate::options::{DecimalSeparatorDisplay, NumberNotation, NumberStyle};
 use crate::read::affix_reader::AffixReader;
@@ -28,7 +29,7 @@ use std::str;
 pub enum NumberReaderError {
     /// The place of the number or of its exponent is not certain:
     ///
-    /// - A decimal separator without fraction digits is written.
+    /// - A decimal separator without fraction digits or without integer digits is written.
     /// - The notation is not standard, and a unit or the name of a currency is written, or numbers are rounded to
     ///   multiples of an increment, or integer digits are cut off.
     /// - The notation is scientific or engineering, and the sign of the exponent is never written; or the text before the
@@ -245,7 +246,9 @@ fn has_plain_digits(formatter: &NumberFormatter) -> bool
     ensures { IsTrue result ↔ HasPlainDigits formatter.now }
 {
     match formatter.options.decimal_separator {
-        DecimalSeparatorDisplay::Auto => can_read_notation(formatter),
+        DecimalSeparatorDisplay::Auto => {
+            !needs_no_integer(&formatter.digits) && can_read_notation(formatter)
+        }
         DecimalSeparatorDisplay::Always => false,
     }
 }

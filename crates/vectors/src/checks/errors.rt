@@ -1,5 +1,4 @@
 //! What `{}` writes of the errors whose texts no clause states, by itself or with options.
-use decimal_format::SymbolsError;
 use fixed_decimal::{CallError, ConcatenateError, IntegerError, ParseError, RunError};
 use test_support::displays;
 
@@ -31,38 +30,9 @@ fn runs_are_displayed() -> bool {
         && displays(&RunError::Sink, b"The sink refused a byte")
 }
 
-fn symbols_are_displayed() -> bool {
-    displays(&SymbolsError::DigitWidths, b"The digits differ in length")
-        && displays(
-            &SymbolsError::DecimalTooLong,
-            b"The decimal separator has more than 255 bytes",
-        )
-        && displays(
-            &SymbolsError::GroupingTooLong,
-            b"The grouping separator has more than 255 bytes",
-        )
-        && displays(
-            &SymbolsError::MinusPrefixTooLong,
-            b"The prefix of the minus sign has more than 255 bytes",
-        )
-        && displays(
-            &SymbolsError::MinusSuffixTooLong,
-            b"The suffix of the minus sign has more than 255 bytes",
-        )
-        && displays(
-            &SymbolsError::PlusPrefixTooLong,
-            b"The prefix of the plus sign has more than 255 bytes",
-        )
-        && displays(
-            &SymbolsError::PlusSuffixTooLong,
-            b"The suffix of the plus sign has more than 255 bytes",
-        )
-}
-
 pub fn are_displayed() -> bool {
     calls_are_displayed()
         && runs_are_displayed()
-        && symbols_are_displayed()
         && displays(&ConcatenateError::Overlap(5u8), b"The numbers overlap")
         && displays(&ConcatenateError::Memory(5u8), b"Out of memory")
         && displays(&IntegerError::NotWhole, b"Not a whole number")

@@ -1,13 +1,9 @@
-//! The order of the modes, and the defaults of signs, of increments and of options.
+//! The order of the modes, and the defaults of signs and of increments.
 ghost use Rattle.std.specs.Prelude.{◌≡◌, true};
 
 use fixed_decimal::SignedRoundingMode::{Ceil, Floor, HalfCeil, HalfFloor, Unsigned};
 use fixed_decimal::UnsignedRoundingMode::{self, Expand, HalfEven, HalfExpand, HalfTrunc, Trunc};
 use fixed_decimal::{RoundingIncrement, Sign, SignDisplay};
-use number_format::{
-    CompactLength, CurrencyDisplay, CurrencyUsage, DecimalSeparatorDisplay, ExponentSign,
-    RoundingPriority, TrailingZeros,
-};
 use std::cmp::Ordering;
 
 /// The modes are ordered as they are written.
@@ -35,20 +31,6 @@ fn have_defaults() -> bool
         && RoundingIncrement::default() == RoundingIncrement::MultiplesOf1
 }
 
-/// The defaults of ECMA-402; of the sign of an exponent and of the usage of a currency that of ICU.
-fn options_have_defaults() -> bool {
-    matches!(TrailingZeros::default(), TrailingZeros::Auto)
-        && matches!(RoundingPriority::default(), RoundingPriority::Auto)
-        && matches!(CurrencyDisplay::default(), CurrencyDisplay::Symbol)
-        && matches!(CompactLength::default(), CompactLength::Short)
-        && matches!(CurrencyUsage::default(), CurrencyUsage::Standard)
-        && matches!(ExponentSign::default(), ExponentSign::Auto)
-        && matches!(
-            DecimalSeparatorDisplay::default(),
-            DecimalSeparatorDisplay::Auto
-        )
-}
-
 pub fn are_ordered() -> bool {
-    modes_in_order(Trunc) && unsigned_modes_in_order() && have_defaults() && options_have_defaults()
+    modes_in_order(Trunc) && unsigned_modes_in_order() && have_defaults()
 }

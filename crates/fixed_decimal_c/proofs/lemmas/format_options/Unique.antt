@@ -244,6 +244,9 @@ same_options c a b is js =
     let separator_is = is.separator in
     let separator_too = js.separator in
     let separator : a.decimal_separator ≡ b.decimal_separator = cc in
+    let sizes_are = is.sizes in
+    let sizes_too = js.sizes in
+    let sizes : a.group_sizes ≡ b.group_sizes = cc in
     let scale = is.scale ∙ sym js.scale in
     let digits = same_digits c a.digits b.digits is.digits js.digits in
     let sign = same_display a.sign_display b.sign_display (sym is.sign ∙ js.sign) in
@@ -255,6 +258,7 @@ same_options c a b is js =
       digits = digits i;
       sign_display = sign i;
       grouping = grouping i;
+      group_sizes = sizes i;
       decimal_separator = separator i;
       numbering_system = system i;
     }

@@ -16,26 +16,21 @@ length_of_both a b = ap length (text_of_both a b) ∙ length-append (pieces_text
 pub text_of_all : (p : RangePieces) → pieces_text (all_pieces p) ≡ text_of_pieces p
 text_of_all p =
     text_of_both p.prefix _
-    ∙ ap (λ t. pieces_text p.prefix ++ t) (text_of_both p.outer_prefix _
-    ∙ ap (λ t. pieces_text p.outer_prefix ++ t) (text_of_both p.start _
+    ∙ ap (λ t. pieces_text p.prefix ++ t) (text_of_both p.start _
     ∙ ap (λ t. pieces_text p.start ++ t) (text_of_both p.middle _
-    ∙ ap (λ t. pieces_text p.middle ++ t) (text_of_both p.end _
-    ∙ ap (λ t. pieces_text p.end ++ t) (text_of_both p.suffix p.outer_suffix)))))
+    ∙ ap (λ t. pieces_text p.middle ++ t) (text_of_both p.end p.suffix)))
 
-module _ (s0 s1 s2 s3 s4 s5 s6 s7 : PartList) (p : RangePieces)
-    (f1 : Puts (Taken s0) (Taken s1) p.prefix) (f2 : Puts (Taken s1) (Taken s2) p.outer_prefix)
-    (f3 : Puts (Taken s2) (Taken s3) p.start) (f4 : Puts (Taken s3) (Taken s4) p.middle)
-    (f5 : Puts (Taken s4) (Taken s5) p.end) (f6 : Puts (Taken s5) (Taken s6) p.suffix)
-    (f7 : Puts (Taken s6) (Taken s7) p.outer_suffix)
-    (none : s0.count ≡ 0) (first : s0.last ≡ no_part) (bound : length (pieces_text (all_pieces p)) < 2 ^ 64) where
+module _ (s0 s1 s2 s3 s4 s5 : PartList) (p : RangePieces) (f1 : Puts (Taken s0) (Taken s1) p.prefix)
+    (f2 : Puts (Taken s1) (Taken s2) p.start) (f3 : Puts (Taken s2) (Taken s3) p.middle)
+    (f4 : Puts (Taken s3) (Taken s4) p.end) (f5 : Puts (Taken s4) (Taken s5) p.suffix) (none : s0.count ≡ 0)
+    (first : s0.last ≡ no_part) (bound : length (pieces_text (all_pieces p)) < 2 ^ 64) where
   -- all pieces were taken, in the same array
-  pub all_taken : (s7.parts.ghost_name ≡ s0.parts.ghost_name)
-      × (length s7.parts.now ≡ length s0.parts.now)
-      × IsPartList s7.parts.now s7.count s7.last (all_pieces p)
+  pub all_taken : (s5.parts.ghost_name ≡ s0.parts.ghost_name)
+      × (length s5.parts.now ≡ length s0.parts.now)
+      × IsPartList s5.parts.now s5.count s5.last (all_pieces p)
   all_taken =
-      let from_end = puts_trans _ _ _ p.end _ f5 (puts_trans _ _ _ p.suffix p.outer_suffix f6 f7) in
-      let from_start = puts_trans _ _ _ p.start _ f3 (puts_trans _ _ _ p.middle _ f4 from_end) in
-      let all = puts_trans _ _ _ p.prefix _ f1 (puts_trans _ _ _ p.outer_prefix _ f2 from_start) in
+      let from_middle = puts_trans _ _ _ p.middle _ f3 (puts_trans _ _ _ p.end p.suffix f4 f5) in
+      let all = puts_trans _ _ _ p.prefix _ f1 (puts_trans _ _ _ p.start _ f2 from_middle) in
       of_all _ _ _ _ _ _ _ _ (all_pieces p) all none first bound
 
   -- the pieces before this state end where the text does so far
@@ -44,42 +39,36 @@ module _ (s0 s1 s2 s3 s4 s5 s6 s7 : PartList) (p : RangePieces)
   end_at s pieces puts fits = (of_all _ _ _ _ _ _ _ _ pieces puts none first fits).2.end
 
   total : length (pieces_text (all_pieces p))
-      ≡ length (pieces_text p.prefix) + (length (pieces_text p.outer_prefix) + (length (pieces_text p.start)
-      + (length (pieces_text p.middle) + (length (pieces_text p.end) + (length (pieces_text p.suffix)
-      + length (pieces_text p.outer_suffix))))))
+      ≡ length (pieces_text p.prefix) + (length (pieces_text p.start) + (length (pieces_text p.middle)
+      + (length (pieces_text p.end) + length (pieces_text p.suffix))))
   total =
       omega (
         arith,
-        length_of_both p.prefix (p.outer_prefix ++ (p.start ++ (p.middle ++ (p.end ++ (p.suffix ++ p.outer_suffix))))),
-        length_of_both p.outer_prefix (p.start ++ (p.middle ++ (p.end ++ (p.suffix ++ p.outer_suffix)))),
-        length_of_both p.start (p.middle ++ (p.end ++ (p.suffix ++ p.outer_suffix))),
-        length_of_both p.middle (p.end ++ (p.suffix ++ p.outer_suffix)),
-        length_of_both p.end (p.suffix ++ p.outer_suffix),
-        length_of_both p.suffix p.outer_suffix,
+        length_of_both p.prefix (p.start ++ (p.middle ++ (p.end ++ p.suffix))),
+        length_of_both p.start (p.middle ++ (p.end ++ p.suffix)),
+        length_of_both p.middle (p.end ++ p.suffix),
+        length_of_both p.end p.suffix,
       )
 
-  pub bounds : (b : RangeBounds) → b.start ≡ s2.last.end → b.middle ≡ s3.last.end → b.end ≡ s4.last.end
-      → b.after ≡ s5.last.end → b ≡ bounds_of p
+  pub bounds : (b : RangeBounds) → b.start ≡ s1.last.end → b.middle ≡ s2.last.end → b.end ≡ s3.last.end
+      → b.after ≡ s4.last.end → b ≡ bounds_of p
   bounds b start middle end after =
-      let to2 = puts_trans _ _ _ p.prefix p.outer_prefix f1 f2 in
-      let to3 = puts_trans _ _ _ _ p.start to2 f3 in
-      let to4 = puts_trans _ _ _ _ p.middle to3 f4 in
-      let to5 = puts_trans _ _ _ _ p.end to4 f5 in
-      let l2 = length_of_both p.prefix p.outer_prefix in
-      let l3 = length_of_both (p.prefix ++ p.outer_prefix) p.start in
-      let l4 = length_of_both ((p.prefix ++ p.outer_prefix) ++ p.start) p.middle in
-      let l5 = length_of_both (((p.prefix ++ p.outer_prefix) ++ p.start) ++ p.middle) p.end in
-      let before = length (pieces_text p.prefix) + length (pieces_text p.outer_prefix) in
-      let e2 : b.start ≡ before = start ∙ end_at s2 _ to2 (omega (arith, bound, total, l2)) ∙ l2 in
-      let e3 : b.middle ≡ before + length (pieces_text p.start) =
-      middle ∙ end_at s3 _ to3 (omega (arith, bound, total, l2, l3)) ∙ l3
-      ∙ ap (λ n. n + length (pieces_text p.start)) l2 in
-      let e4 : b.end ≡ before + length (pieces_text p.start) + length (pieces_text p.middle) =
-      end ∙ end_at s4 _ to4 (omega (arith, bound, total, l2, l3, l4)) ∙ l4 ∙ omega (arith, l2, l3) in
-      let e5 : b.after ≡ before + length (pieces_text p.start) + length (pieces_text p.middle)
+      let to2 = puts_trans _ _ _ p.prefix p.start f1 f2 in
+      let to3 = puts_trans _ _ _ _ p.middle to2 f3 in
+      let to4 = puts_trans _ _ _ _ p.end to3 f4 in
+      let l2 = length_of_both p.prefix p.start in
+      let l3 = length_of_both (p.prefix ++ p.start) p.middle in
+      let l4 = length_of_both ((p.prefix ++ p.start) ++ p.middle) p.end in
+      let before = length (pieces_text p.prefix) in
+      let e1 : b.start ≡ before = start ∙ end_at s1 _ f1 (omega (arith, bound, total)) in
+      let e2 : b.middle ≡ before + length (pieces_text p.start) =
+      middle ∙ end_at s2 _ to2 (omega (arith, bound, total, l2)) ∙ l2 in
+      let e3 : b.end ≡ before + length (pieces_text p.start) + length (pieces_text p.middle) =
+      end ∙ end_at s3 _ to3 (omega (arith, bound, total, l2, l3)) ∙ l3 ∙ omega (arith, l2) in
+      let e4 : b.after ≡ before + length (pieces_text p.start) + length (pieces_text p.middle)
       + length (pieces_text p.end) =
-      after ∙ end_at s5 _ to5 (omega (arith, bound, total, l2, l3, l4, l5)) ∙ l5 ∙ omega (arith, l2, l3, l4) in
-      λ i. record { start = e2 i; middle = e3 i; end = e4 i; after = e5 i }
+      after ∙ end_at s4 _ to4 (omega (arith, bound, total, l2, l3, l4)) ∙ l4 ∙ omega (arith, l2, l3) in
+      λ i. record { start = e1 i; middle = e2 i; end = e3 i; after = e4 i }
 
 -- ---- Sources.
 

@@ -2,16 +2,6 @@ use Rattle.std.proofs.Common.{inl, inr, refl}
 use Rattle.number_format.specs.FormattedRanges.{shown_range}
 use Rattle.fixed_decimal_c.proofs.range_parts.write_range_parts.Goals as goal
 
-pub error_of_range-requires-clause-limit : goal.error_of_range-requires-clause-limit
-error_of_range-requires-clause-limit c =
-    let (start, end) = c.in-Err.ensures.unchanged in
-    rw start (rw end c.in-Err.ensures.limit)
-
-pub error_of_range-requires-clause-memory : goal.error_of_range-requires-clause-memory
-error_of_range-requires-clause-memory c =
-    let (start, end) = c.in-Err.ensures.unchanged in
-    rw start (rw end c.in-Err.ensures.memory)
-
 pub returns-in-Ok : goal.returns-in-Ok
 returns-in-Ok c =
     inl (
@@ -23,5 +13,5 @@ returns-in-Ok c =
 
 pub returns-in-Err : goal.returns-in-Err
 returns-in-Err c =
-    let (start, end) = c.in-Err.ensures.unchanged in
-    inr (c.error_of_range.result, refl, rw start at (rw end at c.error_of_range.ensures), refl, refl, refl)
+    let failed = c.in-Err.failed in
+    inr (c.error_of_range.result, refl, (failed.at_end, failed.error, c.in-Err.ensures.fails, c.error_of_range.ensures), refl, refl, refl)

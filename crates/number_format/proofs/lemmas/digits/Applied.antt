@@ -1,7 +1,7 @@
 -- A decimal that is rounded at the position of a precision, with the digits that are shown then, is the one that the
 -- options make.
 use Rattle.std.proofs.{Common.{◌≡◌, ℕ, ◌*◌, ◌/◌, ◌%◌, ◌^◌, ◌<◌, ◌≤◌, false, refl, sym, ◌∙◌, ap, subst, arith}, Math.Nat.{mod-lt, mod-eq_of_lt, div-add-mod', mul-mod_left}, lemmas.{Int.{ints, clamps}, Bool.or_from}}
-use Rattle.std.specs.{Prelude.{Some, ℤ, pos, negsuc, ◌+ℤ◌, ◌-ℤ◌, ◌≤ℤ◌, int_lt}, Int.{int_max, int_min}}
+use Rattle.std.specs.{Prelude.{Some, max, ℤ, pos, negsuc, ◌+ℤ◌, ◌-ℤ◌, ◌≤ℤ◌, int_lt}, Int.{int_max, int_min}}
 use Rattle.decimal_digits.specs.{Number.{number_limit, offset, weight, first, size, highest_magnitude}, Rounding.{step_of, unit_at, rounded_number}, declared.rounding.{RoundError.{RoundError, TheVariants.{Limit, Memory}}, RoundingIncrement.RoundingIncrement, UnsignedRoundingMode.UnsignedRoundingMode}}
 use Rattle.decimal_unsigned.specs.{Unsigned.{Unsigned, IsValue}, Edits.{padded_start, padded_end}, Rounded.{rounding, reaches_limit}}
 use Rattle.fixed_decimal.specs.{Decimal.{Decimal, signed_number}, SignedRounding.{NamedSigned, mode_at, IsRounded, RoundingFails}}
@@ -100,7 +100,7 @@ size_of_remainder n k few =
 -- the value with the given least number of integer digits, and zeros down to a magnitude or to 0
 pub padded_is : (o : DigitOptions) (cut : Unsigned) (rounded : ℕ) (end : ℤ)
     → cut.number ≡ rounded % weight (pos o.integer.max)
-    → padded_end (padded_start cut (pos o.integer.min)) (int_min (int_max end (negsuc 32767)) (pos 0))
+    → padded_end (padded_start cut (pos (max o.integer.min 1))) (int_min (int_max end (negsuc 32767)) (pos 0))
     ≡ padded o rounded end
 padded_is o cut rounded end number = grind (arith, ints, clamps)
 

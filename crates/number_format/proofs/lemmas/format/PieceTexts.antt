@@ -1,12 +1,12 @@
 -- Pieces of a text, and their texts.
 use Rattle.std.proofs.{Common.{◌≡◌, ℕ, zero, suc, ◌+◌, ◌-◌, ◌<◌, List, [], ◌∷◌, ◌++◌, length, get_or, take, drop, take-append-drop, sym, ◌∙◌, ap, subst, refl, arith, append_assoc, append-nil}, lemmas.{List.{take_more, Concat.flat_map-cons}, Grind.flat_map-append}}
-use Rattle.std.specs.Prelude.{Option, Some, None, ℤ, pos, ◌-ℤ◌, Bool, true, false, if◌then◌else◌}
+use Rattle.std.specs.Prelude.{Option, Some, None, ℤ, pos, ◌-ℤ◌, int_lt, Bool, true, false, not, ◌&&◌, ◌||◌, if◌then◌else◌}
 use Rattle.decimal_unsigned.specs.Unsigned.{Unsigned}
 use Rattle.fixed_decimal.specs.Decimal.{Decimal}
-use Rattle.decimal_format.specs.{declared.grouping.GroupingStrategy.{GroupingStrategy, TheVariants.Never}, Formatted.{separator_before, separator_after, magnitude_text, formatted_down, absolute_text, shown_count}, Symbols.{Symbols, digit_text}}
-use Rattle.decimal_digits.specs.Number.{digit}
+use Rattle.decimal_format.specs.{declared.grouping.GroupingStrategy.{GroupingStrategy, TheVariants.Never}, Formatted.{separator_before, separator_after, formatted_down, absolute_text, shown_count}, Symbols.Symbols}
 use Rattle.decimal_format.proofs.lemmas.formatter.Magnitudes.{one_more}
-use Rattle.number_format.specs.{declared.format.{formatted_number.FormattedNumber.FormattedNumber, affixes.NumberAffixes.NumberAffixes, formatter.NumberFormatter.NumberFormatter, outer.OuterAround.OuterAround, text_part.{PartKind.PartKind, TextPart.TextPart}}, TextParts.{Piece, Puts, PutsPrefix, is_whole, part_pieces, parts_text, piece_of, pieces_text, pieces_of, pieces_to_end, parts_pieces, trimmed_pieces, digit_kind, magnitude_pieces, first_pieces, digit_pieces}, TrimmedTexts.{trimmed_length, kept_length}, FormattedNumbers.{around_of, outer_of, exponent_text, number_pieces, number_text, number_text_if, inner_pieces, inner_text, inner_text_if, formatted_number_text, IsOuter}, NumberText.{bare_separator, exponent_kind, exponent_pieces, exponent_of, number_part, AreParts}, PatternTexts.{Around, around, within, sign_text}}
+use Rattle.number_format.specs.declared.{digits.options.DigitOptions.DigitOptions, options.DecimalSeparatorDisplay.DecimalSeparatorDisplay}
+use Rattle.number_format.specs.{declared.format.{formatted_number.FormattedNumber.FormattedNumber, affixes.NumberAffixes.NumberAffixes, formatter.NumberFormatter.NumberFormatter, outer.OuterAround.OuterAround, text_part.{PartKind.PartKind, TextPart.TextPart}}, TextParts.{Piece, Puts, PutsPrefix, is_whole, part_pieces, parts_text, piece_of, pieces_text, pieces_of, pieces_to_end, parts_pieces, trimmed_pieces, digit_if, digit_kind, magnitude_pieces, first_pieces, digit_pieces}, TrimmedTexts.{trimmed_length, kept_length}, FormattedNumbers.{around_of, digits_text, outer_of, exponent_text, number_pieces, number_text, number_text_if, inner_pieces, inner_text, inner_text_if, formatted_number_text, IsOuter}, NumberText.{bare_separator, has_no_integer, hides_zero, is_always, is_significant_zero, needs_no_integer, exponent_kind, exponent_pieces, exponent_of, number_part, AreParts}, PatternTexts.{Around, around, within, sign_text}}
 use Rattle.number_format.specs.declared.format.text_part.PartKind.TheVariants as kind
 
 pub puts_nil : (a : List Piece → Type 0) → Puts a a []
@@ -66,42 +66,51 @@ parts_pieces-split parts i p h e =
     ∙ ap parts_pieces (take-append-drop (i + 1) parts)
 
 -- one magnitude more
-pub first_pieces-more : (k : PartKind) (s : Symbols) (strategy : GroupingStrategy) (v : Unsigned) (i : ℕ)
-    → first_pieces k s strategy v (i + 1)
-    ≡ first_pieces k s strategy v i ++ magnitude_pieces k s strategy v (v.hi -ℤ pos i)
-unfolding first_pieces
-first_pieces-more k s strategy v i =
-    let e : i + 1 ≡ suc i = omega arith in
-    ap (first_pieces k s strategy v) e
+module _ (hidden : Bool) (kind : PartKind) (s : Symbols) (strategy : GroupingStrategy) (v : Unsigned) where
+  pub first_pieces-more : (i : ℕ)
+      → first_pieces hidden kind s strategy v (i + 1)
+      ≡ first_pieces hidden kind s strategy v i ++ magnitude_pieces hidden kind s strategy v (v.hi -ℤ pos i)
+  unfolding first_pieces
+  first_pieces-more i =
+      let e : i + 1 ≡ suc i = omega arith in
+      ap (first_pieces hidden kind s strategy v) e
 
--- the first n magnitudes are a prefix of n + k
-pub first_pieces-prefix : (kind : PartKind) (s : Symbols) (strategy : GroupingStrategy) (v : Unsigned) (n k : ℕ)
-    → (rest : List Piece) × (first_pieces kind s strategy v n ++ rest ≡ first_pieces kind s strategy v (n + k))
-first_pieces-prefix kind s strategy v n zero =
-    let e : n ≡ n + zero = omega arith in
-    ([], append-nil (first_pieces kind s strategy v n) ∙ ap (first_pieces kind s strategy v) e)
-first_pieces-prefix kind s strategy v n (suc k) =
-    let (rest, is) = first_pieces-prefix kind s strategy v n k in
-    let e : (n + k) + 1 ≡ n + suc k = omega arith in
-    let more = magnitude_pieces kind s strategy v (v.hi -ℤ pos (n + k)) in (
-      rest ++ more,
-      sym (append_assoc (first_pieces kind s strategy v n) rest more)
-          ∙ ap (λ l. l ++ more) is
-          ∙ sym (first_pieces-more kind s strategy v (n + k))
-          ∙ ap (first_pieces kind s strategy v) e,
-    )
+  -- the first n magnitudes are a prefix of n + k
+  first_pieces-prefix : (n k : ℕ)
+      → (rest : List Piece)
+      × (first_pieces hidden kind s strategy v n ++ rest ≡ first_pieces hidden kind s strategy v (n + k))
+  first_pieces-prefix n zero =
+      let e : n ≡ n + zero = omega arith in
+      ([], append-nil (first_pieces hidden kind s strategy v n) ∙ ap (first_pieces hidden kind s strategy v) e)
+  first_pieces-prefix n (suc k) =
+      let (rest, is) = first_pieces-prefix n k in
+      let e : (n + k) + 1 ≡ n + suc k = omega arith in
+      let more = magnitude_pieces hidden kind s strategy v (v.hi -ℤ pos (n + k)) in (
+        rest ++ more,
+        sym (append_assoc (first_pieces hidden kind s strategy v n) rest more)
+            ∙ ap (λ l. l ++ more) is
+            ∙ sym (first_pieces-more (n + k))
+            ∙ ap (first_pieces hidden kind s strategy v) e,
+      )
 
--- a prefix of one magnitude more is a prefix of all
-pub digits_prefix : (kind : PartKind) (s : Symbols) (strategy : GroupingStrategy) (v : Unsigned) (n : ℕ)
-    (a b c : List Piece → Type 0) → n < shown_count v → Puts a b (first_pieces kind s strategy v n)
-    → PutsPrefix b c (magnitude_pieces kind s strategy v (v.hi -ℤ pos n))
-    → PutsPrefix a c (digit_pieces kind s strategy v)
-digits_prefix kind s strategy v n a b c h p q =
-    let e' : (n + 1) + (shown_count v - (n + 1)) ≡ shown_count v = omega (arith, h) in
-    let (rest, is) = first_pieces-prefix kind s strategy v (n + 1) (shown_count v - (n + 1)) in
-    subst (PutsPrefix a c) (is ∙ ap (first_pieces kind s strategy v) e')
-    (prefix_more a c _ rest (subst (PutsPrefix a c) (sym (first_pieces-more kind s strategy v n))
-    (then_prefix a b c _ _ p q)))
+  -- and of all
+  pub some_of_digits : (n : ℕ) → n < shown_count v
+      → (rest : List Piece)
+      × (first_pieces hidden kind s strategy v (n + 1) ++ rest ≡ digit_pieces hidden kind s strategy v)
+  some_of_digits n h =
+      let e : (n + 1) + (shown_count v - (n + 1)) ≡ shown_count v = omega (arith, h) in
+      let (rest, is) = first_pieces-prefix (n + 1) (shown_count v - (n + 1)) in
+      (rest, is ∙ ap (first_pieces hidden kind s strategy v) e)
+
+  -- a prefix of one magnitude more is a prefix of all
+  pub digits_prefix : (n : ℕ) (a b c : List Piece → Type 0) → n < shown_count v
+      → Puts a b (first_pieces hidden kind s strategy v n)
+      → PutsPrefix b c (magnitude_pieces hidden kind s strategy v (v.hi -ℤ pos n))
+      → PutsPrefix a c (digit_pieces hidden kind s strategy v)
+  digits_prefix n a b c h p q =
+      let (rest, is) = some_of_digits n h in
+      subst (PutsPrefix a c) is
+      (prefix_more a c _ rest (subst (PutsPrefix a c) (sym (first_pieces-more n)) (then_prefix a b c _ _ p q)))
 
 abbrev bytes : Piece → List ℕ
 bytes p = p.text
@@ -162,51 +171,67 @@ pub text-three : (a b c : List Piece) (x y z : List ℕ) → pieces_text a ≡ x
 text-three a b c x y z p q r =
     text-append a (b ++ c) ∙ (λ i. p i ++ (text-append b c ∙ (λ j. q j ++ r j)) i)
 
-text-of_magnitude : (k : PartKind) (s : Symbols) (strategy : GroupingStrategy) (v : Unsigned) (m : ℤ)
-    → pieces_text (magnitude_pieces k s strategy v m) ≡ magnitude_text s strategy v.hi v.number m
-text-of_magnitude k s strategy v m =
+pub text-of_magnitude : (hidden : Bool) (k : PartKind) (s : Symbols) (strategy : GroupingStrategy) (v : Unsigned)
+    (m : ℤ)
+    → pieces_text (magnitude_pieces hidden k s strategy v m)
+    ≡ separator_before s m ++ (digit_if hidden s v.number m ++ separator_after s strategy v.hi m)
+text-of_magnitude hidden k s strategy v m =
     let before = separator_before s m in
-    let text = digit_text s (digit v.number m) in
+    let text = digit_if hidden s v.number m in
     let after = separator_after s strategy v.hi m in
     text-three (pieces_of kind.Decimal before) (pieces_of (digit_kind k m) text) (pieces_of kind.Group after) before
     text after (text-of kind.Decimal before) (text-of (digit_kind k m) text) (text-of kind.Group after)
 
 text-of_first : (k : PartKind) (s : Symbols) (strategy : GroupingStrategy) (v : Unsigned) (n : ℕ)
-    → pieces_text (first_pieces k s strategy v n) ≡ formatted_down s strategy v.hi v.number v.hi n
+    → pieces_text (first_pieces false k s strategy v n) ≡ formatted_down s strategy v.hi v.number v.hi n
 unfolding first_pieces formatted_down
 text-of_first k s strategy v zero = refl
 text-of_first k s strategy v (suc n) =
     let e : n + 1 ≡ suc n = omega arith in
-    text-append (first_pieces k s strategy v n) (magnitude_pieces k s strategy v (v.hi -ℤ pos n))
-    ∙ (λ i. text-of_first k s strategy v n i ++ text-of_magnitude k s strategy v (v.hi -ℤ pos n) i)
+    text-append (first_pieces false k s strategy v n) (magnitude_pieces false k s strategy v (v.hi -ℤ pos n))
+    ∙ (λ i. text-of_first k s strategy v n i ++ text-of_magnitude false k s strategy v (v.hi -ℤ pos n) i)
     ∙ sym (one_more s strategy v n)
     ∙ ap (formatted_down s strategy v.hi v.number v.hi) e
 
 pub text-of_digits : (k : PartKind) (s : Symbols) (strategy : GroupingStrategy) (v : Unsigned)
-    → pieces_text (digit_pieces k s strategy v) ≡ absolute_text s strategy v
+    → pieces_text (digit_pieces false k s strategy v) ≡ absolute_text s strategy v
 text-of_digits k s strategy v = text-of_first k s strategy v (shown_count v)
+
+-- of which integer digits may be hidden
+text-of_shown : (hidden : Bool) (s : Symbols) (strategy : GroupingStrategy) (v : Unsigned)
+    → pieces_text (digit_pieces hidden kind.Integer s strategy v) ≡ digits_text hidden s strategy v
+text-of_shown false s strategy v = text-of_digits kind.Integer s strategy v
+text-of_shown true s strategy v = refl
+
+-- an integer digit is shown of each number
+pub shows_integer : (digits : Option DigitOptions) (display : DecimalSeparatorDisplay) (v : Unsigned)
+    → needs_no_integer digits ≡ false → hides_zero digits display v ≡ false
+shows_integer digits display v h =
+    ap (λ b. b && (has_no_integer v && ((int_lt v.lo (pos 0) || is_always display)
+    && not (is_significant_zero digits v.number)))) h
 
 text-of_exponent : (f : NumberFormatter) (e : Option Decimal) → pieces_text (exponent_pieces f e) ≡ exponent_text f e
 text-of_exponent f None = refl
 text-of_exponent f (Some e) =
     let sign = sign_text f.style.symbols e.sign in
     text-three (pieces_of kind.ExponentSeparator f.separator.text.now) (pieces_of (exponent_kind e.sign) sign)
-    (digit_pieces kind.ExponentInteger f.style.symbols Never e.absolute) f.separator.text.now sign
+    (digit_pieces false kind.ExponentInteger f.style.symbols Never e.absolute) f.separator.text.now sign
     (absolute_text f.style.symbols Never e.absolute) (text-of kind.ExponentSeparator f.separator.text.now)
     (text-of (exponent_kind e.sign) sign) (text-of_digits kind.ExponentInteger f.style.symbols Never e.absolute)
 
 -- the text of the digits and of an exponent
 pub text-of_digits_and_exponent : (f : NumberFormatter) (v : Unsigned) (e : Option Decimal)
     → pieces_text (number_part f v e)
-    ≡ (absolute_text f.style.symbols f.options.grouping v
+    ≡ (digits_text (hides_zero f.digits f.options.decimal_separator v) f.style.symbols f.options.grouping v
     ++ bare_separator f.options.decimal_separator f.style.symbols v) ++ exponent_text f e
 text-of_digits_and_exponent f v e =
-    let digits = digit_pieces kind.Integer f.style.symbols f.options.grouping v in
+    let hidden = hides_zero f.digits f.options.decimal_separator v in
+    let digits = digit_pieces hidden kind.Integer f.style.symbols f.options.grouping v in
     let bare = bare_separator f.options.decimal_separator f.style.symbols v in
     let separator = pieces_of kind.Decimal bare in
     text-append (digits ++ separator) (exponent_pieces f e)
     ∙ (λ i. (text-append digits separator
-    ∙ (λ j. text-of_digits kind.Integer f.style.symbols f.options.grouping v j ++ text-of kind.Decimal bare j)) i
+    ∙ (λ j. text-of_shown hidden f.style.symbols f.options.grouping v j ++ text-of kind.Decimal bare j)) i
     ++ text-of_exponent f e i)
 
 pub text-of_number : (n : FormattedNumber)

@@ -5,7 +5,7 @@ use Rattle.decimal_unsigned.specs.{Edits.multiplied_pow10, Unsigned.{Unsigned, I
 use Rattle.fixed_decimal.specs.{Decimal.{Decimal, with_absolute, with_sign_display, negative_or, displayed_sign}, declared.variations.{Sign.Sign, SignDisplay.SignDisplay}}
 use Rattle.decimal_format.specs.{Formatted.{absolute_text, formatted}, Symbols.{Symbols, sign_affixes}, declared.grouping.GroupingStrategy.{GroupingStrategy, TheVariants.{Auto, Never, Always, Min2}}}
 use Rattle.locale_data.specs.declared.{currency.CurrencyPattern.CurrencyPattern, local_currency.{CurrencyDigits.CurrencyDigits, LocalCurrency.LocalCurrency}, tables.rows.patterns.Pattern.Pattern}
-use Rattle.number_format.specs.{declared.{digits.options.DigitOptions.DigitOptions, format.{formatter.NumberFormatter.NumberFormatter, outer.OuterTexts.OuterTexts, text_part.PartKind.PartKind}}, DefaultDigits.AreDefaultDigits, Formatters.{IsFormatterBy, digits_by, plain_options, style_sizes, with_separators}, NumberStyles.plain_pattern, NumberText.{IsNumberText, rounded_in, number_before_cut, shown_number, exponent_of, compact_magnitude, is_one, compact_pattern, compact_style, outer_texts, around_by, exponent_pieces, significand_pieces}, PatternTexts.{pattern_around, within}, Scaled.{ScaledValue, scaled_value}, TextParts.{Piece, pieces_text, pieces_of, digit_pieces}}
+use Rattle.number_format.specs.{declared.{digits.options.DigitOptions.DigitOptions, format.{formatter.NumberFormatter.NumberFormatter, outer.OuterTexts.OuterTexts, text_part.PartKind.PartKind}, options.GroupSizes.GroupSizes}, DefaultDigits.AreDefaultDigits, Formatters.{IsFormatterBy, digits_by, plain_options, style_sizes, with_separators}, NumberStyles.plain_pattern, NumberText.{IsNumberText, rounded_in, number_before_cut, shown_number, exponent_of, compact_magnitude, is_one, compact_pattern, compact_style, outer_texts, around_by, exponent_pieces, significand_pieces}, PatternTexts.{pattern_around, within}, Scaled.{ScaledValue, scaled_value}, TextParts.{Piece, pieces_text, pieces_of, digit_pieces}}
 use Rattle.number_format.proofs.{lemmas.format.PieceTexts.{text-append, text-of, text-of_digits}, lemmas.read.ReadBack.unshifted}
 
 some_same : (x y : ScaledValue) → Some x ≡ Some y → x ≡ y
@@ -17,7 +17,7 @@ no_digits money g name None h = refl
 no_digits money g name (Some digits) h = absurd (let t : true ≡ false = h.0 in cc)
 
 own_sizes : (own : Symbols) (g : GroupingStrategy) → g ≢ Always
-    → style_sizes (plain_pattern own.sizes) g own.sizes ≡ own.sizes
+    → style_sizes (plain_pattern own.sizes) GroupSizes.Locale g own.sizes ≡ own.sizes
 own_sizes own Always h = absurd (h refl)
 own_sizes own Auto h = refl
 own_sizes own Never h = refl
@@ -39,7 +39,9 @@ is_plain system own currency texts g name f made not_always =
     record {
       symbols =
           made.symbols
-          ∙ (λ i. record (with_separators own (written i)) { sizes = style_sizes (written i).pattern g own.sizes })
+          ∙ (λ i. record (with_separators own (written i)) {
+            sizes = style_sizes (written i).pattern GroupSizes.Locale g own.sizes;
+          })
           ∙ (λ i. record own { sizes = own_sizes own g not_always i });
       pattern = made.pattern ∙ ap (λ (p : CurrencyPattern). p.pattern) written;
       options = made.options;
@@ -51,7 +53,7 @@ is_plain system own currency texts g name f made not_always =
 abbrev pieces_for : NumberFormatter → Symbols → Pattern → GroupingStrategy → Unsigned → Sign → List Piece
 pieces_for f symbols pattern g v s =
     let a = pattern_around (record f.style { symbols = symbols; pattern = pattern }) s in
-    (a.prefix ++ (((digit_pieces PartKind.Integer symbols g v ++ []) ++ []) ++ a.suffix)) ++ []
+    (a.prefix ++ (((digit_pieces false PartKind.Integer symbols g v ++ []) ++ []) ++ a.suffix)) ++ []
 
 abbrev plain_pieces : NumberFormatter → Symbols → GroupingStrategy → Unsigned → Sign → List Piece
 plain_pieces f own = pieces_for f own (plain_pattern own.sizes)
@@ -62,18 +64,18 @@ around_is : (f : NumberFormatter) (own : Symbols) (g : GroupingStrategy) (v : Un
     ≡ (sign_affixes own (negative_or Sign.None s)).prefix
     ++ (absolute_text own g v ++ (sign_affixes own (negative_or Sign.None s)).suffix)
 around_is f own g v Sign.None e =
-    let left : plain_pieces f own g v Sign.None ≡ digit_pieces PartKind.Integer own g v = simp append-nil in
+    let left : plain_pieces f own g v Sign.None ≡ digit_pieces false PartKind.Integer own g v = simp append-nil in
     ap pieces_text left ∙ text-of_digits PartKind.Integer own g v ∙ sym (append-nil (absolute_text own g v))
 around_is f own g v Sign.Positive e =
-    let left : plain_pieces f own g v Sign.None ≡ digit_pieces PartKind.Integer own g v = simp append-nil in
+    let left : plain_pieces f own g v Sign.None ≡ digit_pieces false PartKind.Integer own g v = simp append-nil in
     ap pieces_text left ∙ text-of_digits PartKind.Integer own g v ∙ sym (append-nil (absolute_text own g v))
 around_is f own g v Sign.Negative e =
     let minus = own.minus.prefix in
     let digits = absolute_text own g v in
     let left : plain_pieces f own g v Sign.Negative ≡ pieces_of PartKind.MinusSign minus
-    ++ digit_pieces PartKind.Integer own g v = simp append-nil in
+    ++ digit_pieces false PartKind.Integer own g v = simp append-nil in
     ap pieces_text left
-    ∙ text-append (pieces_of PartKind.MinusSign minus) (digit_pieces PartKind.Integer own g v)
+    ∙ text-append (pieces_of PartKind.MinusSign minus) (digit_pieces false PartKind.Integer own g v)
     ∙ (λ i. text-of PartKind.MinusSign minus i ++ text-of_digits PartKind.Integer own g v i)
     ∙ ap (λ l. minus ++ l) (sym (append-nil digits))
     ∙ ap (λ l. minus ++ (digits ++ l)) (sym e)
@@ -98,7 +100,7 @@ of_plain f own g name v text plain valid no_suffix (pieces, is, of_pieces) =
     (compact_pattern f.formats (compact_style (plain.options i).notation (plain.options i).style)
     (compact_magnitude f.notation (number i).significand (number i).exponent) is.category
     (is_one (number i).significand)))
-    (significand_pieces f (plain.options i).decimal_separator (number i).significand.absolute
+    (significand_pieces f (plain.digits i) (plain.options i).decimal_separator (number i).significand.absolute
     ++ exponent_pieces f (exponent_of (plain.options i).notation (number i).exponent))))
     ∙ (λ i. pieces_for f (plain.symbols i) (plain.pattern i) (plain.options i).grouping v.absolute s))
     ∙ around_is f own g v.absolute v.sign no_suffix

@@ -1,19 +1,15 @@
 -- The texts of segments of ranges.
 use Rattle.std.proofs.Common.{◌≡◌, ◌++◌, ◌∙◌}
-use Rattle.number_format.specs.{declared.range.segment.{InnerSegment.InnerSegment, Segment.Segment}, FormattedNumbers.{number_pieces_if, number_text, number_text_if}, FormattedRanges.{inner_pieces, inner_text, outer_pieces, outer_text, segment_pieces, segment_text}, NumberText.{exponent_of, number_part}, TextParts.{parts_pieces, parts_text, pieces_text}}
+use Rattle.number_format.specs.{declared.range.segment.Segment.Segment, FormattedNumbers.{number_pieces, number_pieces_if, number_text, number_text_if}, FormattedRanges.{outer_pieces, outer_text, segment_pieces, segment_text}, TextParts.{parts_pieces, parts_text, pieces_text}}
 use Rattle.number_format.proofs.lemmas.format.PieceTexts.{text-append, text-if, text-of, text-of_number, text-of_parts, text-three}
-
-text-of_inner : (s : InnerSegment) → pieces_text (inner_pieces s) ≡ inner_text s
-text-of_inner s =
-    let n = s.number.now in
-    let number =
-    number_part n.formatter.now n.value.absolute (exponent_of n.formatter.now.options.notation n.exponent) in
-    text-three (parts_pieces s.prefix) (number_pieces_if n s.has_number) (parts_pieces s.suffix) (parts_text s.prefix)
-    (number_text_if n s.has_number) (parts_text s.suffix) (text-of_parts s.prefix)
-    (text-if s.has_number number (number_text n) (text-of_number n)) (text-of_parts s.suffix)
 
 -- the text of the pieces of a segment
 pub text-of_segment : (s : Segment) → pieces_text (segment_pieces s) ≡ segment_text s
 text-of_segment s =
-    text-append (outer_pieces s.outer s.is_after) (inner_pieces s.inner)
-    ∙ (λ i. text-of s.outer.kind (outer_text s.outer s.is_after) i ++ text-of_inner s.inner i)
+    let n = s.number.now in
+    let outer = outer_pieces s.outer s.is_after in
+    text-three (parts_pieces s.affixes.prefix) (number_pieces_if n s.affixes.has_number) (parts_pieces s.affixes.suffix ++ outer)
+    (parts_text s.affixes.prefix) (number_text_if n s.affixes.has_number) (parts_text s.affixes.suffix ++ outer_text s.outer s.is_after)
+    (text-of_parts s.affixes.prefix) (text-if s.affixes.has_number (number_pieces n) (number_text n) (text-of_number n))
+    (text-append (parts_pieces s.affixes.suffix) outer
+    ∙ (λ i. text-of_parts s.affixes.suffix i ++ text-of s.outer.kind (outer_text s.outer s.is_after) i))

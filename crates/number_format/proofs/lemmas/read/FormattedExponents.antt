@@ -7,8 +7,8 @@ use Rattle.fixed_decimal.proofs.Calling.{below_limit}
 use Rattle.plural_rules.specs.declared.rules.PluralCategory.{PluralCategory}
 use Rattle.decimal_format.specs.Scanning.{value_of}
 use Rattle.number_format.specs.ScientificReading as scientific
-use Rattle.number_format.specs.{declared.{digits.options.DigitOptions.DigitOptions, format.{formatter.NumberFormatter.NumberFormatter, ids.FormatterIds.FormatterIds, outer.OuterTexts.OuterTexts}, notation.Notation.{Notation, TheVariants.{Scientific, Engineering}}, options.{DecimalSeparatorDisplay.DecimalSeparatorDisplay, NumberOptions.NumberOptions, NumberNotation.NumberNotation, NumberStyle.NumberStyle}, read.{pattern.NumberPattern.NumberPattern, scientific.ExponentForm.ExponentForm}}, AffixedExponents.IsReadWithExponent, AffixedTexts.{between, shifted, IsSplit}, Formatters.{IsFormatterAt, IsNotationBy}, NumberReading.{KeepsNotation, CanReadExponents, CanReadWords, CanReadNotation, HasNumbers, CanRead, IsShownAs, keys_by, pattern_at, patterns_of, reader_of}, NumberText.{IsNumberText, compact_style, exponent_of, rounded_in, shown_sign}, Scaled.{ScaledValue, scaled}, ScientificReading.{CanReadExponent, ScientificNumeral, IsScientificNumeral, exponent_form, HasExponentOf, notation_of, scientific_text}}
-use Rattle.number_format.proofs.lemmas.{format.PieceTexts.text-of_digits_and_exponent, notation.Exponents.exponent_shown, read.{AffixedNumbers.only_middle, FormatterTexts.{none_key, text_between}, PatternLists.in_map, ScientificAffixes.affixed_reads, ScientificBodies.{number_written, scientific_begins, scientific_ends}, ScientificShown.{number, numeral, shown_numeral}, ScientificUnique.{one_significand, one_exponent}, ShownValues.{scaled_first, shown_value}}}
+use Rattle.number_format.specs.{declared.{digits.options.DigitOptions.DigitOptions, format.{formatter.NumberFormatter.NumberFormatter, ids.FormatterIds.FormatterIds, outer.OuterTexts.OuterTexts}, notation.Notation.{Notation, TheVariants.{Scientific, Engineering}}, options.{DecimalSeparatorDisplay.DecimalSeparatorDisplay, NumberOptions.NumberOptions, NumberNotation.NumberNotation, NumberStyle.NumberStyle}, read.{pattern.NumberPattern.NumberPattern, scientific.ExponentForm.ExponentForm}}, AffixedExponents.IsReadWithExponent, AffixedTexts.{between, shifted, IsSplit}, Formatters.{IsFormatterAt, IsNotationBy}, NumberReading.{KeepsNotation, CanReadExponents, CanReadWords, CanReadNotation, HasNumbers, CanRead, IsShownAs, keys_by, pattern_at, patterns_of, reader_of}, NumberText.{IsNumberText, compact_style, exponent_of, needs_no_integer, rounded_in, shown_sign}, Scaled.{ScaledValue, scaled}, ScientificReading.{CanReadExponent, ScientificNumeral, IsScientificNumeral, exponent_form, HasExponentOf, notation_of, scientific_text}}
+use Rattle.number_format.proofs.lemmas.{format.PieceTexts.{shows_integer, text-of_digits_and_exponent}, notation.Exponents.exponent_shown, read.{AffixedNumbers.only_middle, FormatterTexts.{none_key, text_between}, PatternLists.in_map, ScientificAffixes.affixed_reads, ScientificBodies.{number_written, scientific_begins, scientific_ends}, ScientificShown.{number, numeral, shown_numeral}, ScientificUnique.{one_significand, one_exponent}, ShownValues.{scaled_first, shown_value}}}
 use Rattle.number_format.proofs.lemmas.read.ScientificShown as shown_texts
 
 -- ---- The notation.
@@ -64,18 +64,19 @@ module _ (f : NumberFormatter) (form : ExponentForm) (h : exponent_form f f.opti
   -- ---- The text.
 
   formatter_text : (v u : Decimal) (text : List ℕ) → f.outer ≡ OuterTexts.None
-      → f.options.decimal_separator ≡ DecimalSeparatorDisplay.Auto → HasNumbers f → IsNumberText f v text
-      → (shown : IsShownAs f v u)
+      → f.options.decimal_separator ≡ DecimalSeparatorDisplay.Auto → needs_no_integer f.digits ≡ false
+      → HasNumbers f → IsNumberText f v text → (shown : IsShownAs f v u)
       → text ≡ between (pattern_at f (None, u.sign))
       (scientific_text f.style.symbols form f.options.grouping u.absolute shown.number.exponent)
-  formatter_text v u text alone auto has is shown =
+  formatter_text v u text alone auto integer has is shown =
       let e = shown.number.exponent in
       let words = no_words f f.options.notation f.options.style form h in
       let key = none_key f words alone is.1.whole (shown_sign f v shown.number.significand) u.sign shown.sign in
       text_between f v u text words has is shown (None, u.sign) key
       ∙ ap (between (pattern_at f (None, u.sign)))
       (text-of_digits_and_exponent f u.absolute (exponent_of f.options.notation e)
-      ∙ number_written f form h auto u.absolute e)
+      ∙ number_written f form h auto u.absolute e
+      (shows_integer f.digits f.options.decimal_separator u.absolute integer))
 
 -- the number that a formatter shows, and its text
 module _ (ids : FormatterIds) (o : NumberOptions) (f : NumberFormatter) (form : ExponentForm)
@@ -125,7 +126,7 @@ module _ (ids : FormatterIds) (o : NumberOptions) (f : NumberFormatter) (form : 
         shown.number.exponent keeps.1 has_exponent.1 has_exponent.0
 
     text_is : (text : List ℕ) → IsNumberText f v text → text ≡ between (pattern u.sign) body
-    text_is text is = formatter_text f form h v u text alone can.undo.0.1 can.undo.1 is shown
+    text_is text is = formatter_text f form h v u text alone can.undo.0.1.0 can.undo.0.1.1 can.undo.1 is shown
 
     is_split : (text : List ℕ) → IsNumberText f v text
         → IsSplit f.style.symbols (patterns_of f) None text (pattern u.sign) body

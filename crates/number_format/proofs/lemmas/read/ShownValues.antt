@@ -66,7 +66,7 @@ padded_value o r end =
     let n = r % weight (pos o.integer.max) in
     let few = padded_few o r in
     in_range n few (padded o r end).hi (padded o r end).lo
-    (omega (arith, ints, clamps, o.integer.some), omega (arith, ints, clamps, o.integer.few, first_to n few))
+    (omega (arith, ints, clamps), omega (arith, ints, clamps, o.integer.few, first_to n few))
     (omega (arith, ints, clamps, last_from n few), omega (arith, ints, clamps)) (omega (arith, ints, clamps))
     (omega (arith, ints, clamps))
 

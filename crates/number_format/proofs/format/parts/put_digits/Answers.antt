@@ -12,12 +12,12 @@ pub loop-below-preserved : goal.loop-below-preserved
 loop-below-preserved g c =
     let f = c.args.digits.now in
     subst (Puts (g.P.PartSink.pieces c.args.sink.now) (g.P.PartSink.pieces c.put_magnitude.new.sink))
-    (sym (first_pieces-more c.args.whole f.symbols f.strategy f.value c.loop-below.below))
+    (sym (first_pieces-more c.args.is_hidden c.args.whole f.symbols f.strategy f.value c.loop-below.below))
     (puts_trans _ _ _ _ _ c.loop-below.invariant c.in_ok-put_magnitude.ensures.ok)
 
 pub returns-in_err-put_magnitude-clause-err : goal.returns-in_err-put_magnitude-clause-err
 returns-in_err-put_magnitude-clause-err g c =
     let f = c.args.digits.now in
     on_err c.from_residual.result _
-    (digits_prefix c.args.whole f.symbols f.strategy f.value c.loop-below.below _ _ _ (omega arith)
+    (digits_prefix c.args.is_hidden c.args.whole f.symbols f.strategy f.value c.loop-below.below _ _ _ (omega arith)
     c.loop-below.invariant c.in_err-put_magnitude.ensures.err)

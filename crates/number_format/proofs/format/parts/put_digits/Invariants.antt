@@ -4,4 +4,4 @@ use Rattle.number_format.proofs.format.parts.put_digits.Given as goal
 abbrev pub invariant-loop-below : goal.invariant-loop-below
 invariant-loop-below g l =
     Puts (g.P.PartSink.pieces l.initial.sink) (g.P.PartSink.pieces l.sink)
-    (first_pieces l.whole l.digits.symbols l.digits.strategy l.digits.value l.below)
+    (first_pieces l.is_hidden l.whole l.digits.symbols l.digits.strategy l.digits.value l.below)

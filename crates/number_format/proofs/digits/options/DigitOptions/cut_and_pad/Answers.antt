@@ -1,10 +1,10 @@
 use Rattle.std.proofs.{Common.{◌≡◌, ℕ, ◌≤◌, arith, rules, w16, w32, to_z, of_z, FitsSigned}, lemmas.Int.{ints, clamps}}
-use Rattle.std.specs.{Prelude.{ℤ, pos, negsuc}, Int.{int_max, int_min}}
+use Rattle.std.specs.{Prelude.{ℤ, pos, negsuc, max}, Int.{int_max, int_min}}
 use Rattle.number_format.proofs.lemmas.digits.Applied.{padded_is, stripped_number}
 use Rattle.number_format.proofs.digits.options.DigitOptions.cut_and_pad.Goals as goal
 
 -- the casts of the two positions
-least_is : (min : ℕ) → min ≤ 32767 → to_z w16 min ≡ pos min
+least_is : (min : ℕ) → min ≤ 32767 → to_z w16 (max min 1) ≡ pos (max min 1)
 least_is min few = omega (arith, ints)
 
 end_is : (last end : ℤ) → FitsSigned w32 last

@@ -18,7 +18,7 @@ pub returns-in-Some-clause-err : goal.returns-in-Some-clause-err
 returns-in-Some-clause-err g c =
     let n = c.args.self.now in
     let f = n.formatter.now in
-    let digits = significand_pieces f f.options.decimal_separator n.value.absolute in
+    let digits = significand_pieces f f.digits f.options.decimal_separator n.value.absolute in
     let exponent = exponent_pieces f (Some c.in-Some.exponent) in
     let e = ap (exponent_pieces f) (sym c.shown_exponent.ensures ∙ c.in-Some.is) in
     let has : c.args.has_number ≡ true = search rules in

@@ -1,10 +1,16 @@
-use Rattle.std.proofs.Common.{◌∙◌, refl, inr}
+use Rattle.std.proofs.Common.{◌∙◌, refl}
 use Rattle.number_format.specs.{FormattedRanges.{end_of, shown_range}, RangeText.form_by}
-use Rattle.number_format.proofs.lemmas.range.RangeEnds.{is_range}
+use Rattle.number_format.proofs.lemmas.range.{RangeEnds.is_range, RangeErrors.{start_fails, end_fails}}
 use Rattle.number_format.proofs.format.formatter.NumberFormatter.format_range.Goals as goal
 
-pub returns-in-Err-range_end-clause-memory : goal.returns-in-Err-range_end-clause-memory
-returns-in-Err-range_end-clause-memory c h = inr (inr (c.in-Err-range_end.ensures.memory h))
+pub returns-in-Err-clause-fails : goal.returns-in-Err-clause-fails
+returns-in-Err-clause-fails c =
+    start_fails c.args.self.now c.args.start c.args.end c.in-Err.error c.in-Err.ensures.limit c.in-Err.ensures.memory
+
+pub returns-in-Err-range_end-clause-fails : goal.returns-in-Err-range_end-clause-fails
+returns-in-Err-range_end-clause-fails c =
+    end_fails c.args.self.now c.args.start c.args.end c.in-Err-range_end.error c.in-Ok-range_end.number
+    c.in-Ok-range_end.ensures.end c.in-Err-range_end.ensures.limit c.in-Err-range_end.ensures.memory
 
 pub returns-clause-range : goal.returns-clause-range
 returns-clause-range c =

@@ -1,7 +1,7 @@
 use Rattle.std.proofs.{Common.◌++◌, lemmas.Result.on_err_weaker}
 use Rattle.decimal_digits.specs.AppendsPrefix.{AppendsPrefix}
 use Rattle.fixed_decimal.proofs.Calling.{on_err, prefix_more, then_prefix}
-use Rattle.number_format.specs.{declared.range.formatted_range.RangeSegment.{RangeSegment, TheVariants.{Prefix, OuterPrefix, Start, Middle, End, Suffix, OuterSuffix}}, FormattedRanges.formatted_range_pieces, TextParts.pieces_text}
+use Rattle.number_format.specs.{declared.range.formatted_range.RangeSegment.{RangeSegment, TheVariants.{Prefix, Start, Middle, End, Suffix}}, FormattedRanges.formatted_range_pieces, TextParts.pieces_text}
 use Rattle.number_format.proofs.range.formatted_range.FormattedRangeWriteable.write_to.Goals as goal
 
 pub returns-in_err-write_segment-clause-err : goal.returns-in_err-write_segment-clause-err
@@ -29,30 +29,10 @@ returns-in_err-write_segment-4-clause-err g c =
     (then_prefix _ _ _ _ _ c.in_ok-write_segment-3.ensures.ok
     (prefix_more _ _ _ _ c.in_err-write_segment-4.ensures.err))))
 
-pub returns-in_err-write_segment-5-clause-err : goal.returns-in_err-write_segment-5-clause-err
-returns-in_err-write_segment-5-clause-err g c =
-    on_err c.from_residual-in_err-write_segment-5.result _
-    (then_prefix _ _ _ _ _ c.in_ok-write_segment.ensures.ok
-    (then_prefix _ _ _ _ _ c.in_ok-write_segment-2.ensures.ok
-    (then_prefix _ _ _ _ _ c.in_ok-write_segment-3.ensures.ok
-    (then_prefix _ _ _ _ _ c.in_ok-write_segment-4.ensures.ok
-    (prefix_more _ _ _ _ c.in_err-write_segment-5.ensures.err)))))
-
-pub returns-in_err-write_segment-6-clause-err : goal.returns-in_err-write_segment-6-clause-err
-returns-in_err-write_segment-6-clause-err g c =
-    on_err c.from_residual-in_err-write_segment-6.result _
-    (then_prefix _ _ _ _ _ c.in_ok-write_segment.ensures.ok
-    (then_prefix _ _ _ _ _ c.in_ok-write_segment-2.ensures.ok
-    (then_prefix _ _ _ _ _ c.in_ok-write_segment-3.ensures.ok
-    (then_prefix _ _ _ _ _ c.in_ok-write_segment-4.ensures.ok
-    (then_prefix _ _ _ _ _ c.in_ok-write_segment-5.ensures.ok
-    (prefix_more _ _ _ _ c.in_err-write_segment-6.ensures.err))))))
-
 pub returns-clause-err : goal.returns-clause-err
 returns-clause-err g c =
     let at = λ (segment : RangeSegment). pieces_text (formatted_range_pieces c.args.self.now segment) in
-    let from_suffix = at Suffix ++ at OuterSuffix in
-    let from_end = at End ++ from_suffix in
+    let from_end = at End ++ at Suffix in
     let from_middle = at Middle ++ from_end in
     let from_start = at Start ++ from_middle in
     let a = g.W.Sink.contents c.args.sink.now in
@@ -60,15 +40,11 @@ returns-clause-err g c =
     let d = g.W.Sink.contents c.write_segment-2.new.sink in
     let e = g.W.Sink.contents c.write_segment-3.new.sink in
     let h = g.W.Sink.contents c.write_segment-4.new.sink in
-    let k = g.W.Sink.contents c.write_segment-5.new.sink in
-    let l = g.W.Sink.contents c.write_segment-6.new.sink in
-    let z = g.W.Sink.contents c.write_segment-7.new.sink in
-    on_err_weaker c.write_segment-7.result
-    (λ (last : AppendsPrefix l z (at OuterSuffix)).
-    then_prefix a b z (at Prefix) (at OuterPrefix ++ from_start) c.in_ok-write_segment.ensures.ok
-    (then_prefix b d z (at OuterPrefix) from_start c.in_ok-write_segment-2.ensures.ok
-    (then_prefix d e z (at Start) from_middle c.in_ok-write_segment-3.ensures.ok
-    (then_prefix e h z (at Middle) from_end c.in_ok-write_segment-4.ensures.ok
-    (then_prefix h k z (at End) from_suffix c.in_ok-write_segment-5.ensures.ok
-    (then_prefix k l z (at Suffix) (at OuterSuffix) c.in_ok-write_segment-6.ensures.ok last))))))
-    c.write_segment-7.ensures.err
+    let z = g.W.Sink.contents c.write_segment-5.new.sink in
+    on_err_weaker c.write_segment-5.result
+    (λ (last : AppendsPrefix h z (at Suffix)).
+    then_prefix a b z (at Prefix) from_start c.in_ok-write_segment.ensures.ok
+    (then_prefix b d z (at Start) from_middle c.in_ok-write_segment-2.ensures.ok
+    (then_prefix d e z (at Middle) from_end c.in_ok-write_segment-3.ensures.ok
+    (then_prefix e h z (at End) (at Suffix) c.in_ok-write_segment-4.ensures.ok last))))
+    c.write_segment-5.ensures.err

@@ -1,18 +1,33 @@
-use Rattle.std.proofs.lemmas.Result.{on_err_weaker}
+use Rattle.std.proofs.{Common.◌++◌, lemmas.Result.on_err_weaker}
 use Rattle.fixed_decimal.proofs.Calling.{on_err}
-use Rattle.number_format.specs.FormattedRanges.{inner_pieces, outer_pieces}
+use Rattle.number_format.specs.{FormattedNumbers.number_pieces_if, FormattedRanges.outer_pieces, TextParts.parts_pieces}
 use Rattle.number_format.proofs.lemmas.format.PieceTexts.{prefix_more, then_prefix}
 use Rattle.number_format.proofs.range.segment.Segment.put.Goals as goal
 
-pub returns-in_err-put_outer-clause-err : goal.returns-in_err-put_outer-clause-err
-returns-in_err-put_outer-clause-err g c =
-    let s = c.args.self.now in
-    on_err c.from_residual.result _
-    (prefix_more _ _ (outer_pieces s.outer s.is_after) (inner_pieces s.inner) c.in_err-put_outer.ensures.err)
+pub returns-in_err-put_parts-clause-err : goal.returns-in_err-put_parts-clause-err
+returns-in_err-put_parts-clause-err g c =
+    on_err c.from_residual.result _ (prefix_more _ _ _ _ c.in_err-put_parts.ensures.err)
+
+pub returns-in_err-put_number_if-clause-err : goal.returns-in_err-put_number_if-clause-err
+returns-in_err-put_number_if-clause-err g c =
+    on_err c.from_residual-in_err-put_number_if.result _
+    (then_prefix _ _ _ _ _ c.in_ok-put_parts.ensures.ok (prefix_more _ _ _ _ c.in_err-put_number_if.ensures.err))
+
+pub returns-in_err-put_parts-2-clause-err : goal.returns-in_err-put_parts-2-clause-err
+returns-in_err-put_parts-2-clause-err g c =
+    on_err c.from_residual-in_err-put_parts-2.result _
+    (then_prefix _ _ _ _ _ c.in_ok-put_parts.ensures.ok
+    (then_prefix _ _ _ _ _ c.in_ok-put_number_if.ensures.ok
+    (prefix_more _ _ _ _ c.in_err-put_parts-2.ensures.err)))
 
 pub returns-clause-err : goal.returns-clause-err
 returns-clause-err g c =
     let s = c.args.self.now in
-    on_err_weaker c.put.result
-    (then_prefix _ _ _ (outer_pieces s.outer s.is_after) (inner_pieces s.inner) c.in_ok-put_outer.ensures.ok)
-    c.put.ensures.err
+    let after = parts_pieces s.affixes.suffix ++ outer_pieces s.outer s.is_after in
+    on_err_weaker c.put_outer.result
+    (λ p. then_prefix _ _ _ (parts_pieces s.affixes.prefix) (number_pieces_if s.number.now s.affixes.has_number ++ after)
+    c.in_ok-put_parts.ensures.ok
+    (then_prefix _ _ _ (number_pieces_if s.number.now s.affixes.has_number) after c.in_ok-put_number_if.ensures.ok
+    (then_prefix _ _ _ (parts_pieces s.affixes.suffix) (outer_pieces s.outer s.is_after)
+    c.in_ok-put_parts-2.ensures.ok p)))
+    c.put_outer.ensures.err
