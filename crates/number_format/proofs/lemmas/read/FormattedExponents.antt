@@ -126,7 +126,7 @@ module _ (ids : FormatterIds) (o : NumberOptions) (f : NumberFormatter) (form : 
         shown.number.exponent keeps.1 has_exponent.1 has_exponent.0
 
     text_is : (text : List ℕ) → IsNumberText f v text → text ≡ between (pattern u.sign) body
-    text_is text is = formatter_text f form h v u text alone can.undo.0.1.0 can.undo.0.1.1 can.undo.1 is shown
+    text_is text is = formatter_text f form h v u text alone can.undo.0.1 can.undo.0.2 can.undo.1 is shown
 
     is_split : (text : List ℕ) → IsNumberText f v text
         → IsSplit f.style.symbols (patterns_of f) None text (pattern u.sign) body

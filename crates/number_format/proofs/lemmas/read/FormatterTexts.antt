@@ -149,7 +149,7 @@ text_between f v u text words has t shown own key =
 -- the text of a number in standard notation is that of the number that is shown
 pub formatter_text : (f : NumberFormatter) (v u : Decimal) (text : List ℕ) → IsStandard f → HasPlainDigits f
     → HasNumbers f → IsNumberText f v text → IsShownAs f v u → IsShown (reader_of f) text u
-formatter_text f v u text standard (notation, (auto, integer)) has t shown =
+formatter_text f v u text standard (notation, auto, integer) has t shown =
     let is = t.1 in
     let number : is.number ≡ shown.number = some_same _ _ (sym is.number_is ∙ shown.number_is) in
     let words : HasNoWords f = ap (λ n. compact_style n f.options.style) standard in
