@@ -50,8 +50,8 @@ static void test_options(void) {
     for (unsigned seed = 0; seed < 3000; seed++) {
         fd_number_options o = FD_NUMBER_OPTIONS;
         srand(seed);
-        static const char *const units[] = {"kilometer", "mile-per-hour", "gram-per-second", "percent"};
-        fd_units unit = fd_unit(BYTES(units[rand() % 4]));
+        static const char *const units[] = {"kilometer", "mile-per-hour", "gram-per-second", "percent", "percent-per-hour"};
+        fd_units unit = fd_unit(BYTES(units[rand() % 5]));
         o.style = (uint8_t)(rand() % 5);
         o.unit = unit.unit, o.per_unit = unit.per_unit, o.unit_display = (uint8_t)(rand() % 3);
         memcpy(o.currency, rand() % 3 ? "EUR" : "jpy", 3);

@@ -1,12 +1,11 @@
 //! The tag of a formatter that C keeps, for the texts of ranges.
-ghost use Rattle.std.specs.Prelude.{◌≡◌, ◌≤◌, ◌==◌, if◌then◌else◌, length};
-ghost use Rattle.locale_data.specs.Tag.{tag_byte};
-ghost use Rattle.fixed_decimal_c.specs.KeptTags.{kept_end, kept_tag, last_hyphen};
+ghost use Rattle.std.specs.Prelude.{◌≡◌, ◌≤◌, ◌==◌, ◌||◌, Bool, if◌then◌else◌, length};
+ghost use Rattle.fixed_decimal_c.specs.KeptTags.{is_hyphen, kept_end, kept_tag, last_hyphen};
 
 fn is_hyphen(byte: u8) -> bool
-    ensures { result ≡ (tag_byte byte == 45) }
+    ensures { result ≡ is_hyphen byte }
 {
-    matches!(byte, b'-' | b'_' | b'.' | b'@')
+    byte == b'-' || byte == b'_' || byte == b'.' || byte == b'@'
 }
 
 fn later(is_hyphen: bool, index: usize, end: usize) -> usize

@@ -52,9 +52,9 @@ separator_of n =
     bare_separator n.formatter.now.options.decimal_separator n.formatter.now.style.symbols n.value.absolute
 
 -- the digits of a value, of which the integer digits may be hidden
-abbrev pub digits_text : Bool → Symbols → GroupingStrategy → Unsigned → List ℕ
-digits_text false s strategy v = absolute_text s strategy v
-digits_text true s strategy v = pieces_text (digit_pieces true PartKind.Integer s strategy v)
+abbrev pub visible_text : Bool → Symbols → GroupingStrategy → Unsigned → List ℕ
+visible_text false s strategy v = absolute_text s strategy v
+visible_text true s strategy v = pieces_text (digit_pieces true PartKind.Integer s strategy v)
 
 -- a magnitude of which integer digits are hidden
 abbrev pub fraction_magnitude : Symbols → GroupingStrategy → Unsigned → ℤ → List ℕ
@@ -69,7 +69,7 @@ hides_zero_of n =
 -- the digits of the significand
 abbrev pub digits_of : FormattedNumber → List ℕ
 digits_of n =
-    digits_text (hides_zero_of n) n.formatter.now.style.symbols n.formatter.now.options.grouping n.value.absolute
+    visible_text (hides_zero_of n) n.formatter.now.style.symbols n.formatter.now.options.grouping n.value.absolute
 
 -- the same with that separator
 abbrev pub significand_text : FormattedNumber → List ℕ

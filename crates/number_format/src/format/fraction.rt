@@ -2,7 +2,7 @@
 ghost use Rattle.std.specs.{Prelude.{◌≡◌, ◌↔◌, ◌<◌, ◌≤◌, ◌-ℤ◌, ℕ, pos, length, true, IsTrue, OnOk, OnErr}, Fmt.WritesStyledOnOk, Io.KnownBytes.Appends};
 ghost use Rattle.decimal_digits.specs.AppendsPrefix.{AppendsPrefix};
 ghost use Rattle.decimal_format.specs.Formatted.{shown_count};
-ghost use Rattle.number_format.specs.{FormattedNumbers.{digits_text, fraction_magnitude}, NumberText.{has_no_integer, hides_zero, is_always, is_significant_zero, needs_no_integer}, TextParts.digit_if};
+ghost use Rattle.number_format.specs.{FormattedNumbers.{visible_text, fraction_magnitude}, NumberText.{has_no_integer, hides_zero, is_always, is_significant_zero, needs_no_integer}, TextParts.digit_if};
 
 use crate::digits::options::DigitOptions;
 use crate::digits::precision::Precision;
@@ -104,9 +104,9 @@ pub(crate) fn write_fraction<W: Sink>(
     sink: &mut W,
 ) -> Result<(), SinkFault>
     ensures ok { OnOk result (Appends (W.contents sink.old) (W.contents sink.new)
-        (digits_text true digits.now.symbols digits.now.strategy digits.now.value)) }
+        (visible_text true digits.now.symbols digits.now.strategy digits.now.value)) }
     ensures err { OnErr result (AppendsPrefix (W.contents sink.old) (W.contents sink.new)
-        (digits_text true digits.now.symbols digits.now.strategy digits.now.value)) }
+        (visible_text true digits.now.symbols digits.now.strategy digits.now.value)) }
     ensures failed { OnErr result (W.has_failed sink.new ≡ true) }
 {
     for below in 0..digits.shown_count() {
@@ -152,7 +152,7 @@ pub(crate) fn fmt_fraction<W: fmt::Write>(
     f: &mut fmt::Formatter<W>,
 ) -> fmt::Result
     ensures { WritesStyledOnOk W.write_str_gives f.old result
-        (digits_text true digits.now.symbols digits.now.strategy digits.now.value) f.new }
+        (visible_text true digits.now.symbols digits.now.strategy digits.now.value) f.new }
 {
     for below in 0..digits.shown_count() {
         fmt_magnitude(digits, below, f)?;
@@ -163,7 +163,7 @@ pub(crate) fn fmt_fraction<W: fmt::Write>(
 /// Returns the number of bytes of the text without the integer digit.
 pub(crate) fn fraction_length(digits: &FormattedAbsolute<'_, DecimalStore>) -> usize
     requires { digits.now.value.hi ≡ pos 0 }
-    ensures value { result ≡ length (digits_text true digits.now.symbols digits.now.strategy digits.now.value) }
+    ensures value { result ≡ length (visible_text true digits.now.symbols digits.now.strategy digits.now.value) }
     ensures at_most { result ≤ 8618239 }
 {
     let mut buffer = [0; 4];

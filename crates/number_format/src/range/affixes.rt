@@ -1,13 +1,15 @@
 //! What is written around an approximate number.
-ghost use Rattle.std.specs.{Prelude.{◌≡◌, ◌≤◌, ◌++◌, [], length, IfSome}, Option.option_copied};
-ghost use Rattle.locale_data.specs.Compact.{AreTexts};
-ghost use Rattle.number_format.specs.{FormattedNumbers.{around_of, pattern_of}, FormattedRanges.AreWideAffixes, PatternTexts.{affix_pieces, sign_pieces}, RangeText.{approximately_pieces, approximate_affixes, approximate_around, approximate_compact, approximate_pattern, approximate_piece, is_sign_last, pieces_if}, TextParts.{part_pieces, parts_pieces}};
+ghost use Rattle.std.specs.{Prelude.{◌≡◌, ◌≤◌, ◌++◌, [], length, IfSome, true}, Option.option_copied};
+ghost use Rattle.locale_data.specs.Compact.{has_texts, AreTexts};
+ghost use Rattle.number_format.specs.{FormattedNumbers.{around_of, pattern_of}, FormattedRanges.AreWideAffixes, NumberText.compact_suffix, PatternTexts.{affix_pieces, sign_pieces}, RangeText.{approximately_pieces, approximate_affixes, approximate_around, approximate_compact, approximate_pattern, approximate_piece, is_sign_last, pieces_if}, TextParts.{part_pieces, parts_pieces}};
 
 use crate::format::affixes::{StyleTexts, space_if};
 use crate::format::formatted_number::FormattedNumber;
 use crate::format::text_part::{PartKind, TextPart};
 use fixed_decimal::Sign;
-use locale_data::{Affix, AffixPair, ApproximatelySign, CompactForm, CompactPattern, Piece};
+use locale_data::{
+    Affix, AffixPair, AffixText, ApproximatelySign, CompactForm, CompactPattern, Piece,
+};
 
 /// An empty part.
 pub(crate) const NOTHING: TextPart<'static> = TextPart {
@@ -110,10 +112,12 @@ impl StyleTexts {
         let AffixPair { prefix, suffix } = self.approximate_pair(sign);
         let after = space_if(self.needs_space_after(prefix));
         let before = space_if(self.needs_space_before(suffix));
+        let prefix = self.approximate_parts(approximately, sign, prefix, NOTHING, after);
+        let suffix = self.approximate_parts(approximately, sign, suffix, before, NOTHING);
         WideAffixes {
-            prefix: self.approximate_parts(approximately, sign, prefix, NOTHING, after),
+            prefix,
             has_number: true,
-            suffix: self.approximate_parts(approximately, sign, suffix, before, NOTHING),
+            suffix,
         }
     }
 
@@ -134,6 +138,51 @@ impl StyleTexts {
         }
     }
 
+    fn approximate_compact_prefix(
+        &self,
+        approximately: ApproximatelySign,
+        sign: Sign,
+        pattern: &CompactPattern,
+    ) -> [TextPart<'_>; 10]
+        requires { AreTexts pattern.now }
+        ensures { parts_pieces result ≡ (approximate_compact self.now approximately sign pattern.now).prefix }
+    {
+        let prefix = &pattern.prefix;
+        let is_last = is_sign_last(pattern.form);
+        let first = self.approximate_sign(approximately, sign, !is_last);
+        let last = self.approximate_sign(approximately, sign, is_last);
+        [
+            first.0,
+            first.1,
+            TextPart::new(PartKind::Compact, prefix.before_text()),
+            self.currency_if(prefix.has_currency),
+            TextPart::new(PartKind::Compact, prefix.after_text()),
+            space_if(self.space_after(prefix)),
+            last.0,
+            last.1,
+            NOTHING,
+            NOTHING,
+        ]
+    }
+
+    fn compact_suffix(&self, suffix: &AffixText) -> [TextPart<'_>; 10]
+        requires { has_texts suffix.now ≡ true }
+        ensures { parts_pieces result ≡ compact_suffix self.now suffix.now }
+    {
+        [
+            space_if(self.space_before(suffix)),
+            TextPart::new(PartKind::Compact, suffix.before_text()),
+            self.currency_if(suffix.has_currency),
+            TextPart::new(PartKind::Compact, suffix.after_text()),
+            NOTHING,
+            NOTHING,
+            NOTHING,
+            NOTHING,
+            NOTHING,
+            NOTHING,
+        ]
+    }
+
     fn approximate_compact(
         &self,
         approximately: ApproximatelySign,
@@ -143,40 +192,12 @@ impl StyleTexts {
         requires { AreTexts pattern.now }
         ensures { AreWideAffixes (approximate_compact self.now approximately sign pattern.now) result }
     {
-        let CompactPattern {
-            form,
-            prefix,
-            suffix,
-            ..
-        } = *pattern;
-        let first = self.approximate_sign(approximately, sign, !is_sign_last(form));
-        let last = self.approximate_sign(approximately, sign, is_sign_last(form));
+        let prefix = self.approximate_compact_prefix(approximately, sign, pattern);
+        let suffix = self.compact_suffix(&pattern.suffix);
         WideAffixes {
-            prefix: [
-                first.0,
-                first.1,
-                TextPart::new(PartKind::Compact, prefix.before_text()),
-                self.currency_if(prefix.has_currency),
-                TextPart::new(PartKind::Compact, prefix.after_text()),
-                space_if(self.space_after(&prefix)),
-                last.0,
-                last.1,
-                NOTHING,
-                NOTHING,
-            ],
-            has_number: !matches!(form, CompactForm::Literal),
-            suffix: [
-                space_if(self.space_before(&suffix)),
-                TextPart::new(PartKind::Compact, suffix.before_text()),
-                self.currency_if(suffix.has_currency),
-                TextPart::new(PartKind::Compact, suffix.after_text()),
-                NOTHING,
-                NOTHING,
-                NOTHING,
-                NOTHING,
-                NOTHING,
-                NOTHING,
-            ],
+            prefix,
+            has_number: !matches!(pattern.form, CompactForm::Literal),
+            suffix,
         }
     }
 

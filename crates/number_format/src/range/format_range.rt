@@ -126,8 +126,8 @@ impl NumberFormatter {
     ///
     /// # Errors
     ///
-    /// Both numbers, unchanged, and the error of [`format`](Self::format) of the first one, or else of the second one. The
-    /// first number is copied before: `Memory` is also for a copy of more than `INLINE_DIGITS` digits.
+    /// Both numbers, unchanged, and the error of [`format`](Self::format) of the first one, or else of the second one.
+    /// The first number is copied before: `Memory` is also for a copy of more than `INLINE_DIGITS` digits.
     ///
     /// ```
     /// let formatter = NumberFormatter::for_ranges("en", options)?;

@@ -4,7 +4,7 @@ use Rattle.std.specs.{Prelude.{Option, Some, None, ℤ, pos, negsuc, ◌-ℤ◌,
 use Rattle.decimal_digits.specs.Number.{digit}
 use Rattle.decimal_unsigned.specs.Unsigned.{Unsigned}
 use Rattle.decimal_format.specs.{declared.grouping.GroupingStrategy.GroupingStrategy, Formatted.{absolute_text, separator_before, separator_after, shown_count}, Symbols.{Symbols, digit_text}}
-use Rattle.number_format.specs.{declared.format.text_part.PartKind.TheVariants.Integer, FormattedNumbers.{digits_text, fraction_magnitude}, TextParts.{digit_if, first_pieces, magnitude_pieces, pieces_text}}
+use Rattle.number_format.specs.{declared.format.text_part.PartKind.TheVariants.Integer, FormattedNumbers.{visible_text, fraction_magnitude}, TextParts.{digit_if, first_pieces, magnitude_pieces, pieces_text}}
 use Rattle.number_format.proofs.lemmas.format.PieceTexts.{first_pieces-more, some_of_digits, text-append, text-of_digits, text-of_magnitude}
 
 -- a sink that takes nothing, and one that takes a text and then another
@@ -40,7 +40,7 @@ module _ (s : Symbols) (strategy : GroupingStrategy) (v : Unsigned) where
   pub text-split : (n : ℕ) → n < shown_count v
       → (rest : List ℕ)
       × (pieces_text (first_pieces true Integer s strategy v n)
-      ++ (fraction_magnitude s strategy v (v.hi -ℤ pos n) ++ rest) ≡ digits_text true s strategy v)
+      ++ (fraction_magnitude s strategy v (v.hi -ℤ pos n) ++ rest) ≡ visible_text true s strategy v)
   text-split n h =
       let (rest, is) = some_of_digits true Integer s strategy v n h in (
         pieces_text rest,
@@ -99,6 +99,6 @@ module _ (s : Symbols) (strategy : GroupingStrategy) (v : Unsigned) where
           ap length (others_shown n),
         )
 
-    pub length-split : length (absolute_text s strategy v) ≡ length whole + length (digits_text true s strategy v)
+    pub length-split : length (absolute_text s strategy v) ≡ length whole + length (visible_text true s strategy v)
     length-split =
         ap length (sym (text-of_digits Integer s strategy v)) ∙ lengths (int_gap v.lo v.hi)

@@ -6,7 +6,7 @@ use Rattle.fixed_decimal.specs.Decimal.{Decimal}
 use Rattle.decimal_format.specs.{declared.grouping.GroupingStrategy.{GroupingStrategy, TheVariants.Never}, Formatted.{separator_before, separator_after, formatted_down, absolute_text, shown_count}, Symbols.Symbols}
 use Rattle.decimal_format.proofs.lemmas.formatter.Magnitudes.{one_more}
 use Rattle.number_format.specs.declared.{digits.options.DigitOptions.DigitOptions, options.DecimalSeparatorDisplay.DecimalSeparatorDisplay}
-use Rattle.number_format.specs.{declared.format.{formatted_number.FormattedNumber.FormattedNumber, affixes.NumberAffixes.NumberAffixes, formatter.NumberFormatter.NumberFormatter, outer.OuterAround.OuterAround, text_part.{PartKind.PartKind, TextPart.TextPart}}, TextParts.{Piece, Puts, PutsPrefix, is_whole, part_pieces, parts_text, piece_of, pieces_text, pieces_of, pieces_to_end, parts_pieces, trimmed_pieces, digit_if, digit_kind, magnitude_pieces, first_pieces, digit_pieces}, TrimmedTexts.{trimmed_length, kept_length}, FormattedNumbers.{around_of, digits_text, outer_of, exponent_text, number_pieces, number_text, number_text_if, inner_pieces, inner_text, inner_text_if, formatted_number_text, IsOuter}, NumberText.{bare_separator, has_no_integer, hides_zero, is_always, is_significant_zero, needs_no_integer, exponent_kind, exponent_pieces, exponent_of, number_part, AreParts}, PatternTexts.{Around, around, within, sign_text}}
+use Rattle.number_format.specs.{declared.format.{formatted_number.FormattedNumber.FormattedNumber, affixes.NumberAffixes.NumberAffixes, formatter.NumberFormatter.NumberFormatter, outer.OuterAround.OuterAround, text_part.{PartKind.PartKind, TextPart.TextPart}}, TextParts.{Piece, Puts, PutsPrefix, is_whole, part_pieces, parts_text, piece_of, pieces_text, pieces_of, pieces_to_end, parts_pieces, trimmed_pieces, digit_if, digit_kind, magnitude_pieces, first_pieces, digit_pieces}, TrimmedTexts.{trimmed_length, kept_length}, FormattedNumbers.{around_of, visible_text, outer_of, exponent_text, number_pieces, number_text, number_text_if, inner_pieces, inner_text, inner_text_if, formatted_number_text, IsOuter}, NumberText.{bare_separator, has_no_integer, hides_zero, is_always, is_significant_zero, needs_no_integer, exponent_kind, exponent_pieces, exponent_of, number_part, AreParts}, PatternTexts.{Around, around, within, sign_text}}
 use Rattle.number_format.specs.declared.format.text_part.PartKind.TheVariants as kind
 
 pub puts_nil : (a : List Piece → Type 0) → Puts a a []
@@ -199,7 +199,7 @@ text-of_digits k s strategy v = text-of_first k s strategy v (shown_count v)
 
 -- of which integer digits may be hidden
 text-of_shown : (hidden : Bool) (s : Symbols) (strategy : GroupingStrategy) (v : Unsigned)
-    → pieces_text (digit_pieces hidden kind.Integer s strategy v) ≡ digits_text hidden s strategy v
+    → pieces_text (digit_pieces hidden kind.Integer s strategy v) ≡ visible_text hidden s strategy v
 text-of_shown false s strategy v = text-of_digits kind.Integer s strategy v
 text-of_shown true s strategy v = refl
 
@@ -222,7 +222,7 @@ text-of_exponent f (Some e) =
 -- the text of the digits and of an exponent
 pub text-of_digits_and_exponent : (f : NumberFormatter) (v : Unsigned) (e : Option Decimal)
     → pieces_text (number_part f v e)
-    ≡ (digits_text (hides_zero f.digits f.options.decimal_separator v) f.style.symbols f.options.grouping v
+    ≡ (visible_text (hides_zero f.digits f.options.decimal_separator v) f.style.symbols f.options.grouping v
     ++ bare_separator f.options.decimal_separator f.style.symbols v) ++ exponent_text f e
 text-of_digits_and_exponent f v e =
     let hidden = hides_zero f.digits f.options.decimal_separator v in

@@ -1,6 +1,6 @@
 -- Why a range is not formatted.
-use Rattle.std.proofs.Common.{◌≡◌, None, true, false, inr, refl}
-use Rattle.std.specs.Prelude.{IsSome}
+use Rattle.std.proofs.Common.{◌≡◌, None, true, false, inr, refl, ap}
+use Rattle.std.specs.Prelude.{IsSome, is_some}
 use Rattle.decimal_digits.specs.declared.rounding.RoundError.{RoundError, TheVariants.{Limit, Memory}}
 use Rattle.fixed_decimal.specs.Decimal.{Decimal}
 use Rattle.number_format.specs.{declared.format.{formatted_number.FormattedNumber.FormattedNumber, formatter.NumberFormatter.NumberFormatter}, FormattedRanges.IsFormattedEnd, NumberText.{shown_number, FormattingNeedsMemory}, RangeText.RangeFormattingFails}
@@ -19,7 +19,7 @@ module _ (f : NumberFormatter) (v w : Decimal) where
   end_fails error n (is, outer) = by error
     where
       shown : IsSome (shown_number f v)
-      shown = rw is.number_is tt
+      shown = ap is_some is.number_is
 
       by : (error : RoundError) → (error ≡ Limit → shown_number f w ≡ None)
           → (error ≡ Memory → FormattingNeedsMemory f w) → RangeFormattingFails f v w true error

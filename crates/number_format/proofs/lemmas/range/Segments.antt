@@ -7,9 +7,10 @@ use Rattle.number_format.proofs.lemmas.format.PieceTexts.{text-append, text-if, 
 pub text-of_segment : (s : Segment) → pieces_text (segment_pieces s) ≡ segment_text s
 text-of_segment s =
     let n = s.number.now in
+    let a = s.affixes in
     let outer = outer_pieces s.outer s.is_after in
-    text-three (parts_pieces s.affixes.prefix) (number_pieces_if n s.affixes.has_number) (parts_pieces s.affixes.suffix ++ outer)
-    (parts_text s.affixes.prefix) (number_text_if n s.affixes.has_number) (parts_text s.affixes.suffix ++ outer_text s.outer s.is_after)
-    (text-of_parts s.affixes.prefix) (text-if s.affixes.has_number (number_pieces n) (number_text n) (text-of_number n))
-    (text-append (parts_pieces s.affixes.suffix) outer
-    ∙ (λ i. text-of_parts s.affixes.suffix i ++ text-of s.outer.kind (outer_text s.outer s.is_after) i))
+    text-three (parts_pieces a.prefix) (number_pieces_if n a.has_number) (parts_pieces a.suffix ++ outer)
+    (parts_text a.prefix) (number_text_if n a.has_number) (parts_text a.suffix ++ outer_text s.outer s.is_after)
+    (text-of_parts a.prefix) (text-if a.has_number (number_pieces n) (number_text n) (text-of_number n))
+    (text-append (parts_pieces a.suffix) outer
+    ∙ (λ i. text-of_parts a.suffix i ++ text-of s.outer.kind (outer_text s.outer s.is_after) i))

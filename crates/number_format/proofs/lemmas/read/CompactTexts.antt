@@ -8,7 +8,7 @@ use Rattle.fixed_decimal.proofs.Calling.{below_limit}
 use Rattle.plural_rules.specs.Operands as operands
 use Rattle.locale_data.specs.{Plurals.IsCategoryAt, declared.compact.CompactStyle.CompactStyle}
 use Rattle.decimal_format.specs.Formatted.{absolute_text}
-use Rattle.number_format.specs.{declared.{digits.options.DigitOptions.DigitOptions, format.{formatter.NumberFormatter.NumberFormatter, outer.OuterTexts.OuterTexts}, notation.Notation.Notation, options.{DecimalSeparatorDisplay.DecimalSeparatorDisplay, NumberNotation.NumberNotation, NumberStyle.NumberStyle}, read.{compact.keys.CompactKey.CompactKey, scientific.ExponentForm.ExponentForm}}, FormattedNumbers.{digits_text, exponent_text}, AffixedTexts.{between, shifted, IsWrittenBy}, CompactReading.{word_pattern, magnitude_by, is_unit, word_reader, HasCompactExponents, IsOwnInWords, IsOwnKey, IsReadInWords, IsShownInWords}, NumberReading.{CanRead, CanReadExponents, CanReadNotation, CanReadWords, HasNumbers, IsShownAs, KeepsNotation, words_of, AreOwnWordsNamed}, NumberText.{IsNumberText, around_by, bare_separator, compact_magnitude, compact_pattern, compact_power, compact_style, exponent_of, is_one, rounded_in, shown_sign}, ScientificReading.exponent_form, Scaled.{ScaledValue, compact_exponent, exponent_at, scaled, IsOrdered}}
+use Rattle.number_format.specs.{declared.{digits.options.DigitOptions.DigitOptions, format.{formatter.NumberFormatter.NumberFormatter, outer.OuterTexts.OuterTexts}, notation.Notation.Notation, options.{DecimalSeparatorDisplay.DecimalSeparatorDisplay, NumberNotation.NumberNotation, NumberStyle.NumberStyle}, read.{compact.keys.CompactKey.CompactKey, scientific.ExponentForm.ExponentForm}}, FormattedNumbers.{visible_text, exponent_text}, AffixedTexts.{between, shifted, IsWrittenBy}, CompactReading.{word_pattern, magnitude_by, is_unit, word_reader, HasCompactExponents, IsOwnInWords, IsOwnKey, IsReadInWords, IsShownInWords}, NumberReading.{CanRead, CanReadExponents, CanReadNotation, CanReadWords, HasNumbers, IsShownAs, KeepsNotation, words_of, AreOwnWordsNamed}, NumberText.{IsNumberText, around_by, bare_separator, compact_magnitude, compact_pattern, compact_power, compact_style, exponent_of, is_one, rounded_in, shown_sign}, ScientificReading.exponent_form, Scaled.{ScaledValue, compact_exponent, exponent_at, scaled, IsOrdered}}
 use Rattle.number_format.proofs.lemmas.{format.PieceTexts.{shows_integer, text-of_digits_and_exponent}, notation.Scales.keeps_exponent, read.{AffixedNumbers.two_texts, CompactKeys.{clamped, same_exponent_at}, FormatterTexts.{text_within, some_same}, ShownValues.{scaled_first, shown_value}}}
 
 -- ---- The exponent.
@@ -140,7 +140,7 @@ module _ (f : NumberFormatter) (style : CompactStyle) (words : words_of f ≡ So
                 ((can_read can.undo.0.0).1.1.1 k)
                 ∙ ap (between (word_pattern f style k))
                 (text-of_digits_and_exponent f u.absolute shown_exponent
-                ∙ (λ i. (digits_text (shows_integer f.digits f.options.decimal_separator u.absolute can.undo.0.2 i)
+                ∙ (λ i. (visible_text (shows_integer f.digits f.options.decimal_separator u.absolute can.undo.0.2 i)
                 f.style.symbols f.options.grouping u.absolute
                 ++ bare_separator (can.undo.0.1 i) f.style.symbols u.absolute)
                 ++ exponent_text f (no_exponent f.options.notation f.options.style style words e i))

@@ -6,7 +6,7 @@ use Rattle.fixed_decimal.specs.{Decimal.Decimal, declared.variations.Sign.Sign}
 use Rattle.decimal_format.specs.{Formatted.absolute_text}
 use Rattle.plural_rules.specs.{Operands.plain, declared.rules.PluralCategory.PluralCategory}
 use Rattle.locale_data.specs.Plurals.{IsCategoryAt}
-use Rattle.number_format.specs.{declared.{format.{outer.OuterTexts.OuterTexts, formatter.NumberFormatter.NumberFormatter}, options.{NumberOptions.NumberOptions, NumberNotation.NumberNotation}, read.pattern.{TheConstants.{SIGN_KEYS, CATEGORY_KEYS}}}, FormattedNumbers.{digits_text, exponent_text}, Formatters.IsFormatter, AffixedTexts.{between, IsShown}, NumberReading.{IsStandard, words_of, HasPlainDigits, HasNumbers, outer_at, pattern_at, keys_by, reader_of, CanRead, IsShownAs}, NumberText.{IsNumberText, shown_sign, whole_number, compact_magnitude, is_one, compact_pattern, compact_style, operands_by, outer_by, outer_texts, around_by, bare_separator, number_part, exponent_of}, PatternTexts.{Around, pattern_around, affixes_for, within}, Scaled.ScaledValue, TextParts.{Piece, pieces_text}}
+use Rattle.number_format.specs.{declared.{format.{outer.OuterTexts.OuterTexts, formatter.NumberFormatter.NumberFormatter}, options.{NumberOptions.NumberOptions, NumberNotation.NumberNotation}, read.pattern.{TheConstants.{SIGN_KEYS, CATEGORY_KEYS}}}, FormattedNumbers.{visible_text, exponent_text}, Formatters.IsFormatter, AffixedTexts.{between, IsShown}, NumberReading.{IsStandard, words_of, HasPlainDigits, HasNumbers, outer_at, pattern_at, keys_by, reader_of, CanRead, IsShownAs}, NumberText.{IsNumberText, shown_sign, whole_number, compact_magnitude, is_one, compact_pattern, compact_style, operands_by, outer_by, outer_texts, around_by, bare_separator, number_part, exponent_of}, PatternTexts.{Around, pattern_around, affixes_for, within}, Scaled.ScaledValue, TextParts.{Piece, pieces_text}}
 use Rattle.number_format.proofs.lemmas.{read.{AffixedNumbers.named_texts_are_unique, PatternLists.in_map}, format.PieceTexts.{shows_integer, text-of_digits_and_exponent, text-three}}
 
 pub some_same : (x y : ScaledValue) → Some x ≡ Some y → x ≡ y
@@ -168,7 +168,7 @@ formatter_text f v u text standard (notation, auto, integer) has t shown =
         is = text_between f v u text words has t shown found.0 key
             ∙ ap (between (pattern_at f found.0))
             (text-of_digits_and_exponent f u.absolute (exponent_of f.options.notation shown.number.exponent)
-            ∙ (λ i. (digits_text (shows_integer f.digits f.options.decimal_separator u.absolute integer i)
+            ∙ (λ i. (visible_text (shows_integer f.digits f.options.decimal_separator u.absolute integer i)
             f.style.symbols f.options.grouping u.absolute ++ bare_separator (auto i) f.style.symbols u.absolute)
             ++ exponent_text f (exponent_of (standard i) shown.number.exponent))
             ∙ append-nil (digits ++ []) ∙ append-nil digits);

@@ -4,7 +4,7 @@ use Rattle.std.specs.{Prelude.{Option, Some, None, ℤ}, Int.Digits.AllBelowBase
 use Rattle.decimal_unsigned.specs.Unsigned.{Unsigned}
 use Rattle.decimal_format.specs.{declared.grouping.GroupingStrategy.TheVariants.Never, Symbols.{Symbols, sign_affixes}, Formatted.absolute_text, Readable.{BeginsWithDigit, EndsWithDigit}, Reading.digits_text}
 use Rattle.decimal_format.proofs.lemmas.reader.Scans.{begins-append}
-use Rattle.number_format.specs.{declared.{format.formatter.NumberFormatter.NumberFormatter, options.{DecimalSeparatorDisplay.DecimalSeparatorDisplay, NumberNotation.NumberNotation}, read.scientific.ExponentForm.ExponentForm}, FormattedNumbers.{digits_text, exponent_text}, NumberText.{bare_separator, hides_zero, exponent_of, exponent_sign, shown_exponent}, ScientificReading.{exponent_form, ScientificNumeral, IsScientificNumeral, scientific_text}}
+use Rattle.number_format.specs.{declared.{format.formatter.NumberFormatter.NumberFormatter, options.{DecimalSeparatorDisplay.DecimalSeparatorDisplay, NumberNotation.NumberNotation}, read.scientific.ExponentForm.ExponentForm}, FormattedNumbers.{exponent_text, visible_text}, NumberText.{bare_separator, hides_zero, exponent_of, exponent_sign, shown_exponent}, ScientificReading.{exponent_form, ScientificNumeral, IsScientificNumeral, scientific_text}}
 use Rattle.number_format.proofs.lemmas.read.{AffixedNumbers.digits_end, NamedAffixes.ends-append, ScientificExponents.some_digits, ScientificTexts.unsigned_begins}
 
 -- ---- A number begins and ends with a digit.
@@ -59,13 +59,13 @@ pub number_written : (f : NumberFormatter) (form : ExponentForm)
     → exponent_form f f.options.notation ≡ Some form
     → f.options.decimal_separator ≡ DecimalSeparatorDisplay.Auto → (v : Unsigned) (e : ℤ)
     → hides_zero f.digits f.options.decimal_separator v ≡ false
-    → (digits_text (hides_zero f.digits f.options.decimal_separator v) f.style.symbols f.options.grouping v
+    → (visible_text (hides_zero f.digits f.options.decimal_separator v) f.style.symbols f.options.grouping v
     ++ bare_separator f.options.decimal_separator f.style.symbols v)
     ++ exponent_text f (exponent_of f.options.notation e)
     ≡ scientific_text f.style.symbols form f.options.grouping v e
 number_written f form h auto v e shown =
     let digits = absolute_text f.style.symbols f.options.grouping v in
-    (λ i. (digits_text (shown i) f.style.symbols f.options.grouping v ++ bare_separator (auto i) f.style.symbols v)
+    (λ i. (visible_text (shown i) f.style.symbols f.options.grouping v ++ bare_separator (auto i) f.style.symbols v)
     ++ exponent_written f f.options.notation form h e i)
     ∙ ap (λ l. l ++ (form.separator.now ++ ((sign_affixes f.style.symbols (exponent_sign form.options.sign e)).prefix
     ++ absolute_text f.style.symbols Never (shown_exponent form.options e).absolute))) (append-nil digits)

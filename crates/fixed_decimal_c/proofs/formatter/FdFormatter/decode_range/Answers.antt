@@ -4,9 +4,9 @@ use Rattle.locale_data.specs.{Locales.IsUnknown, Rows.unpadded}
 use Rattle.number_format.specs.FormattedRanges.{AreRangeTexts}
 use Rattle.fixed_decimal_c.proofs.formatter.FdFormatter.decode_range.Goals as goal
 
-pub returns-in_default-at-clause-none : goal.returns-in_default-at-clause-none
-returns-in_default-at-clause-none c =
-    inl (inr (inr (c.in-Some.ids, c.in-Some.ensures.some.0, c.in_default-at.ensures.none)))
+pub returns-in_default-ranges_at-clause-none : goal.returns-in_default-ranges_at-clause-none
+returns-in_default-ranges_at-clause-none c =
+    inl (inr (inr (c.in-Some.ids, c.in-Some.ensures.some.0, c.in_default-ranges_at.ensures.none)))
 
 pub returns-in_default-from_utf8-clause-none : goal.returns-in_default-from_utf8-clause-none
 returns-in_default-from_utf8-clause-none c =
@@ -21,7 +21,7 @@ returns-in-Some-of-clause-some c =
       c.in-Some.options,
       c.in-Some.ensures.some.0,
       c.in-Some.ensures.some.1,
-      c.in-Some-at.ensures.some,
+      c.in-Some-ranges_at.ensures.some,
       system,
       c.in-Some-system_at.ensures.some,
       subst (λ tag. AreRangeTexts tag (Some system) texts) is c.in-Some-of.ensures.some,

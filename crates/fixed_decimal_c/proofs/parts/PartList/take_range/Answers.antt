@@ -9,7 +9,8 @@ returns-clause-same_array c =
     let p = range_pieces (shown_range c.args.range.now) in
     (all_taken c.args.self.now c.take_segment.new.self c.take_segment-2.new.self c.take_segment-3.new.self
     c.take_segment-4.new.self c.take_segment-5.new.self p c.take_segment.ensures c.take_segment-2.ensures
-    c.take_segment-3.ensures c.take_segment-4.ensures c.take_segment-5.ensures c.requires.empty c.requires.first c.requires.counted).0
+    c.take_segment-3.ensures c.take_segment-4.ensures c.take_segment-5.ensures
+    c.requires.empty c.requires.first c.requires.counted).0
 
 pub returns-clause-count : goal.returns-clause-count
 returns-clause-count c =
@@ -17,7 +18,8 @@ returns-clause-count c =
     let all =
     all_taken c.args.self.now c.take_segment.new.self c.take_segment-2.new.self c.take_segment-3.new.self
     c.take_segment-4.new.self c.take_segment-5.new.self p c.take_segment.ensures c.take_segment-2.ensures
-    c.take_segment-3.ensures c.take_segment-4.ensures c.take_segment-5.ensures c.requires.empty c.requires.first c.requires.counted in
+    c.take_segment-3.ensures c.take_segment-4.ensures c.take_segment-5.ensures
+    c.requires.empty c.requires.first c.requires.counted in
     counted _ _ _ (all_pieces p) all.2
 
 pub returns-clause-parts : goal.returns-clause-parts
@@ -26,7 +28,8 @@ returns-clause-parts c = λ fits.
     let all =
     all_taken c.args.self.now c.take_segment.new.self c.take_segment-2.new.self c.take_segment-3.new.self
     c.take_segment-4.new.self c.take_segment-5.new.self p c.take_segment.ensures c.take_segment-2.ensures
-    c.take_segment-3.ensures c.take_segment-4.ensures c.take_segment-5.ensures c.requires.empty c.requires.first c.requires.counted in
+    c.take_segment-3.ensures c.take_segment-4.ensures c.take_segment-5.ensures
+    c.requires.empty c.requires.first c.requires.counted in
     filled _ _ _ (all_pieces p) all.2 (all.1 ∙ fits)
 
 pub returns-clause-bounds : goal.returns-clause-bounds
@@ -34,4 +37,5 @@ returns-clause-bounds c =
     let p = range_pieces (shown_range c.args.range.now) in
     bounds c.args.self.now c.take_segment.new.self c.take_segment-2.new.self c.take_segment-3.new.self
     c.take_segment-4.new.self c.take_segment-5.new.self p c.take_segment.ensures c.take_segment-2.ensures
-    c.take_segment-3.ensures c.take_segment-4.ensures c.take_segment-5.ensures c.requires.empty c.requires.first c.requires.counted _ refl refl refl refl
+    c.take_segment-3.ensures c.take_segment-4.ensures c.take_segment-5.ensures
+    c.requires.empty c.requires.first c.requires.counted _ refl refl refl refl

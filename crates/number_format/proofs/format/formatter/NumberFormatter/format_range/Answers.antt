@@ -5,11 +5,12 @@ use Rattle.number_format.proofs.format.formatter.NumberFormatter.format_range.Go
 
 pub returns-in-Err-clause-fails : goal.returns-in-Err-clause-fails
 returns-in-Err-clause-fails c =
-    start_fails c.args.self.now c.args.start c.args.end c.in-Err.error c.in-Err.ensures.limit c.in-Err.ensures.memory
+    start_fails c.args.self.now c.args.start c.args.end c.in-Err.field-0.error c.in-Err.ensures.limit
+    c.in-Err.ensures.memory
 
 pub returns-in-Err-range_end-clause-fails : goal.returns-in-Err-range_end-clause-fails
 returns-in-Err-range_end-clause-fails c =
-    end_fails c.args.self.now c.args.start c.args.end c.in-Err-range_end.error c.in-Ok-range_end.number
+    end_fails c.args.self.now c.args.start c.args.end c.in-Err-range_end.field-0.error c.in-Ok-range_end.number
     c.in-Ok-range_end.ensures.end c.in-Err-range_end.ensures.limit c.in-Err-range_end.ensures.memory
 
 pub returns-clause-range : goal.returns-clause-range

@@ -1,9 +1,12 @@
-use Rattle.std.proofs.Common.{◌++◌, ◌∙◌}
-use Rattle.number_format.specs.FormattedNumbers.{number_pieces_if}
+use Rattle.std.proofs.Common.{◌≡◌, true, ◌++◌, ◌∙◌, ap, rules, sym}
+use Rattle.number_format.specs.FormattedNumbers.{inner_pieces_if, number_pieces_if}
 use Rattle.number_format.proofs.range.segment.Segment.number_if.Goals as goal
 
 pub returns : goal.returns
 returns c =
+    let n = c.args.number.now in
+    let shown : c.args.shown ≡ true = search rules in
     let is = c.wide_affixes-affixes.ensures in
     c.between.ensures
-    ∙ (λ i. is.prefix i ++ (number_pieces_if c.args.number.now (is.has_number i) ++ is.suffix i))
+    ∙ (λ i. is.prefix i ++ (number_pieces_if n (is.has_number i) ++ is.suffix i))
+    ∙ sym (ap (inner_pieces_if n) shown)

@@ -23,11 +23,12 @@ returns-in_err-put_parts-2-clause-err g c =
 pub returns-clause-err : goal.returns-clause-err
 returns-clause-err g c =
     let s = c.args.self.now in
-    let after = parts_pieces s.affixes.suffix ++ outer_pieces s.outer s.is_after in
+    let a = s.affixes in
+    let after = parts_pieces a.suffix ++ outer_pieces s.outer s.is_after in
     on_err_weaker c.put_outer.result
-    (λ p. then_prefix _ _ _ (parts_pieces s.affixes.prefix) (number_pieces_if s.number.now s.affixes.has_number ++ after)
+    (λ p. then_prefix _ _ _ (parts_pieces a.prefix) (number_pieces_if s.number.now a.has_number ++ after)
     c.in_ok-put_parts.ensures.ok
-    (then_prefix _ _ _ (number_pieces_if s.number.now s.affixes.has_number) after c.in_ok-put_number_if.ensures.ok
-    (then_prefix _ _ _ (parts_pieces s.affixes.suffix) (outer_pieces s.outer s.is_after)
+    (then_prefix _ _ _ (number_pieces_if s.number.now a.has_number) after c.in_ok-put_number_if.ensures.ok
+    (then_prefix _ _ _ (parts_pieces a.suffix) (outer_pieces s.outer s.is_after)
     c.in_ok-put_parts-2.ensures.ok p)))
-    c.put_outer.ensures.err
+    (rw c.outer_texts.ensures at c.put_outer.ensures.err)

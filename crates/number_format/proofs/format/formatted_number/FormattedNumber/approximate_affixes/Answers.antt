@@ -1,6 +1,6 @@
 use Rattle.std.proofs.Common.{subst}
 use Rattle.number_format.specs.{FormattedRanges.AreWideAffixes, RangeText.approximate_around}
-use Rattle.number_format.proofs.range.affixes.FormattedNumber.approximate_affixes.Goals as goal
+use Rattle.number_format.proofs.format.formatted_number.FormattedNumber.approximate_affixes.Goals as goal
 
 pub returns : goal.returns
 returns c =
