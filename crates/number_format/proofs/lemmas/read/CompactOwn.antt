@@ -61,18 +61,18 @@ module _ (f : NumberFormatter) (style : CompactStyle) (v : Decimal) (p : NumberP
     -- they are not, and the number is no 1
     pub not_unit : (b : Bool) → b ≡ is_unit v.absolute → b ≡ false → ¬ HasTextsOf f style p (key false)
         → IsTrue false ↔ IsOwnPattern f style v p
-    not_unit b is no none = (λ t. absurd (cc), λ own. absurd (by own.key.is_one (texts_by own) own.own.is_one))
+    not_unit b is off none = (λ t. absurd (cc), λ own. absurd (by own.key.is_one (texts_by own) own.own.is_one))
       where
         by : (one : Bool) → HasTextsOf f style p (key one) → (one ≡ true → is_unit v.absolute ≡ true) → ⊥
         by false has unit = none has
-        by true has unit = absurd (let e = sym no ∙ is ∙ unit refl in cc)
+        by true has unit = absurd (let e = sym off ∙ is ∙ unit refl in cc)
 
     -- it is 1, and the texts are those for 1 or not
     pub own_singular : (b r : Bool) → b ≡ is_unit v.absolute → b ≡ true → exponent_at f.notation m ≡ p.exponent
         → ¬ HasTextsOf f style p (key false) → IsTrue r ↔ HasTextsOf f style p (key true)
         → IsTrue r ↔ IsOwnPattern f style v p
-    own_singular b r is yes exponent none test = (
-      λ t. own_by true (λ e. sym is ∙ yes) exponent (test.0 t),
+    own_singular b r is on exponent none test = (
+      λ t. own_by true (λ e. sym is ∙ on) exponent (test.0 t),
       λ own. by own.key.is_one (texts_by own),
     )
       where
@@ -182,7 +182,5 @@ module _ (f : NumberFormatter) (style : CompactStyle) (r : Reader) (is : IsWordR
         Ok v,
         is.patterns,
         there (Ok v) read,
-        p,
-        subst (λ (q : Reader). IsWrittenBy q text v p) is.reader by,
-        e,
+        (p, subst (λ (q : Reader). IsWrittenBy q text v p) is.reader by, e),
       )

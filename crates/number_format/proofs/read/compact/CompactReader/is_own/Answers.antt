@@ -1,4 +1,4 @@
-use Rattle.std.proofs.Common.{◌≡◌, ◌×◌, ◌∙◌, sym, ap, subst}
+use Rattle.std.proofs.{Common.{◌≡◌, ◌∙◌, sym, ap, subst, w16, w32, FitsSigned, rules}, lemmas.Int.to_z-of_z}
 use Rattle.locale_data.specs.{Plurals.IsCategoryAt, declared.{compact.CompactStyle.CompactStyle, plurals.PluralRulesId.PluralRulesId}}
 use Rattle.plural_rules.specs.Operands.{plain}
 use Rattle.number_format.specs.{declared.format.formatter.NumberFormatter.NumberFormatter, AffixedTexts.Reader, CompactReading.IsWordReader, Scaled.exponent_at}
@@ -13,10 +13,15 @@ returns-then-not-are_same_powers g c =
     let m = c.magnitude_by-magnitude in
     let is = subst (λ (x : NumberFormatter × CompactStyle). IsWordReader x.0 x.1 c.self.inside.reader) c.self.view_is
     c.self.invariant in
-    let own = c.exponent_at-exponent.ensures.value
+    let magnitude_fits : FitsSigned w16 m.result = search rules in
+    let exponent_fits : FitsSigned w32 c.exponent_at-exponent.result = search rules in
+    let at = simp to_z-of_z at c.exponent_at-exponent.ensures.value in
+    let same = simp to_z-of_z at c.are_same_powers.ensures in
+    let magnitude = simp to_z-of_z at m.ensures in
+    let own = at
     ∙ ap (λ (x : NumberFormatter × CompactStyle). exponent_at x.0.notation m.result) c.self.view_is in
-    not_own w.0 w.1 v p m.result m.ensures c.requires.sign
-    (λ e. let t = c.are_same_powers.ensures.1 (own ∙ e) in absurd (cc (t, c.if-not-are_same_powers.true)))
+    not_own w.0 w.1 v p m.result magnitude c.requires.sign
+    (λ e. let t = same.1 (own ∙ e) in absurd (cc (t, c.if-not-are_same_powers.true)))
 
 pub returns-then-has_texts_of : goal.returns-then-has_texts_of
 returns-then-has_texts_of g c =
@@ -26,12 +31,17 @@ returns-then-has_texts_of g c =
     let m = c.magnitude_by-magnitude in
     let is = subst (λ (x : NumberFormatter × CompactStyle). IsWordReader x.0 x.1 c.self.inside.reader) c.self.view_is
     c.self.invariant in
-    let own = c.exponent_at-exponent.ensures.value
+    let magnitude_fits : FitsSigned w16 m.result = search rules in
+    let exponent_fits : FitsSigned w32 c.exponent_at-exponent.result = search rules in
+    let at = simp to_z-of_z at c.exponent_at-exponent.ensures.value in
+    let same = simp to_z-of_z at c.are_same_powers.ensures in
+    let magnitude = simp to_z-of_z at m.ensures in
+    let own = at
     ∙ ap (λ (x : NumberFormatter × CompactStyle). exponent_at x.0.notation m.result) c.self.view_is in
     let category = subst (λ (r : PluralRulesId). IsCategoryAt r (plain v.absolute) c.category.result)
     (ap (λ (r : Reader). r.rules) is.reader) c.category.ensures in
-    let exponent = sym own ∙ c.are_same_powers.ensures.0 c.if-not-are_same_powers.false in
-    own_plural w.0 w.1 v p m.result m.ensures c.requires.sign c.category.result category exponent
+    let exponent = sym own ∙ same.0 c.if-not-are_same_powers.false in
+    own_plural w.0 w.1 v p m.result magnitude c.requires.sign c.category.result category exponent
     (c.has_texts_of.ensures.0 c.if-has_texts_of.true)
 
 pub returns-then-is_unit : goal.returns-then-is_unit
@@ -42,12 +52,17 @@ returns-then-is_unit g c =
     let m = c.magnitude_by-magnitude in
     let is = subst (λ (x : NumberFormatter × CompactStyle). IsWordReader x.0 x.1 c.self.inside.reader) c.self.view_is
     c.self.invariant in
-    let own = c.exponent_at-exponent.ensures.value
+    let magnitude_fits : FitsSigned w16 m.result = search rules in
+    let exponent_fits : FitsSigned w32 c.exponent_at-exponent.result = search rules in
+    let at = simp to_z-of_z at c.exponent_at-exponent.ensures.value in
+    let same = simp to_z-of_z at c.are_same_powers.ensures in
+    let magnitude = simp to_z-of_z at m.ensures in
+    let own = at
     ∙ ap (λ (x : NumberFormatter × CompactStyle). exponent_at x.0.notation m.result) c.self.view_is in
     let category = subst (λ (r : PluralRulesId). IsCategoryAt r (plain v.absolute) c.category.result)
     (ap (λ (r : Reader). r.rules) is.reader) c.category.ensures in
-    let exponent = sym own ∙ c.are_same_powers.ensures.0 c.if-not-are_same_powers.false in
-    own_singular w.0 w.1 v p m.result m.ensures c.requires.sign c.category.result category c.is_unit.result
+    let exponent = sym own ∙ same.0 c.if-not-are_same_powers.false in
+    own_singular w.0 w.1 v p m.result magnitude c.requires.sign c.category.result category c.is_unit.result
     c.has_texts_of-2.result c.is_unit.ensures c.if-is_unit.true exponent
     (λ has. let t = c.has_texts_of.ensures.1 has in absurd (cc (t, c.if-has_texts_of.false))) c.has_texts_of-2.ensures
 
@@ -59,11 +74,16 @@ returns-else-is_unit g c =
     let m = c.magnitude_by-magnitude in
     let is = subst (λ (x : NumberFormatter × CompactStyle). IsWordReader x.0 x.1 c.self.inside.reader) c.self.view_is
     c.self.invariant in
-    let own = c.exponent_at-exponent.ensures.value
+    let magnitude_fits : FitsSigned w16 m.result = search rules in
+    let exponent_fits : FitsSigned w32 c.exponent_at-exponent.result = search rules in
+    let at = simp to_z-of_z at c.exponent_at-exponent.ensures.value in
+    let same = simp to_z-of_z at c.are_same_powers.ensures in
+    let magnitude = simp to_z-of_z at m.ensures in
+    let own = at
     ∙ ap (λ (x : NumberFormatter × CompactStyle). exponent_at x.0.notation m.result) c.self.view_is in
     let category = subst (λ (r : PluralRulesId). IsCategoryAt r (plain v.absolute) c.category.result)
     (ap (λ (r : Reader). r.rules) is.reader) c.category.ensures in
-    let exponent = sym own ∙ c.are_same_powers.ensures.0 c.if-not-are_same_powers.false in
-    not_unit w.0 w.1 v p m.result m.ensures c.requires.sign c.category.result category c.is_unit.result
+    let exponent = sym own ∙ same.0 c.if-not-are_same_powers.false in
+    not_unit w.0 w.1 v p m.result magnitude c.requires.sign c.category.result category c.is_unit.result
     c.is_unit.ensures c.if-is_unit.false
     (λ has. let t = c.has_texts_of.ensures.1 has in absurd (cc (t, c.if-has_texts_of.false)))

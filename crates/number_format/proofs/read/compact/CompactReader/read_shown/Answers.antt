@@ -1,4 +1,4 @@
-use Rattle.std.proofs.{Common.{◌≡◌, ◌×◌, Ok, Err, sym, arith, subst}, lemmas.Int.ints}
+use Rattle.std.proofs.{Common.{◌≡◌, Ok, Err, sym, arith, subst}, lemmas.Int.ints}
 use Rattle.locale_data.specs.declared.compact.CompactStyle.{CompactStyle}
 use Rattle.number_format.specs.{declared.format.formatter.NumberFormatter.NumberFormatter, CompactReading.{IsOwnOr, IsReadShownInWords}}
 use Rattle.number_format.proofs.lemmas.read.CompactOwn.{pattern_exponent, read_error, read_value}

@@ -1,4 +1,4 @@
-use Rattle.std.proofs.Common.{◌≡◌, None, ◌×◌, sym, subst}
+use Rattle.std.proofs.Common.{◌≡◌, None, sym, subst}
 use Rattle.std.specs.Prelude.{Option}
 use Rattle.locale_data.specs.declared.compact.CompactStyle.{CompactStyle}
 use Rattle.number_format.specs.{declared.format.formatter.NumberFormatter.NumberFormatter, NumberReading.{NumberReader, IsTypedBy}}
