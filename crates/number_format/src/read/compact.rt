@@ -126,6 +126,8 @@ impl CompactReader {
     fn has_texts_of(&self, pattern: &NumberPattern, key: CompactKey) -> bool
         ensures { IsTrue result ↔ HasTextsOf self.now.0 self.now.1 pattern.now key }
     {
+        // Proof hint: the reader satisfies its invariant.
+        let _style = self.style;
         let singular = CompactKey {
             whole: PluralCategory::One,
             ..key
