@@ -12,8 +12,10 @@
 #
 # The second table has a field of lines `name7,city,dddd.ddd,tail`, without quotes and as CSV, beside `numfmt`, `mawk`
 # and Python's `csv` and `decimal`. The third has lines `d,ddd.ddd` that are read and written in the form of a locale,
-# beside the same numbers without one; all of its lines differ. The fourth has at most 1,000,000 of the plain lines written
-# as amounts of money and as numbers of a locale, beside `numfmt` and Python's Babel.
+# beside the same numbers without one; all of its lines differ. The fourth has at most 1,000,000 of the plain lines
+# written as amounts of money and as numbers of a locale, beside `numfmt` and Python's Babel. The fifth has at most
+# 1,000,000 lines `ddd.dd` with K, M or T, which `read:en:K` reads, beside `numfmt --from=si`. It adds 1 to some of the
+# products, so some of its lines differ.
 #
 # The last table has the instructions of a line: of the filter, of the filter with no call, which parses each line as
 # a number and prints it, of the filter on a field and with locales, of the C program, and of one that only copies each
@@ -35,14 +37,15 @@ cat > "$room/lines.py" <<'PYTHON'
 import random, sys
 random.seed(7)
 room = sys.argv[2]
-names = ("plain", "fields", "grouped", "cents")
-plain, fields, grouped, cents = (open(f"{room}/{name}", "w") for name in names)
+names = ("plain", "fields", "grouped", "cents", "words")
+plain, fields, grouped, cents, words = (open(f"{room}/{name}", "w") for name in names)
 for line in range(int(sys.argv[1])):
     n = random.randrange(1000000, 10000000)
     plain.write("%d.%03d\n" % (n // 1000, n % 1000))
     fields.write("name%d,city,%d.%03d,tail\n" % (line % 10, n // 1000, n % 1000))
     grouped.write("%d,%03d.%03d\n" % (n // 1000000, n // 1000 % 1000, n % 1000))
     cents.write("%d.%02d\n" % (n // 1000, n // 10 % 100))
+    words.write("%d.%02d%s\n" % (n // 10000, n // 100 % 100, "KMT"[n % 3]))
 PYTHON
 cat > "$room/field.py" <<'PYTHON'
 import csv, sys
@@ -160,6 +163,14 @@ done
 table 'amounts of money' 'numbers of a locale' 'numfmt --to=si' 'Babel, amounts of money'
 table 'rounded amounts of money' 'numbers of three decimals'
 
+head -n 1000000 "$room/words" > "$room/compact"
+for ((pass = 0; pass < passes; pass++)); do
+  timed compact read:en:K "$room/fixdec_lines" read:en:K
+  timed compact read:en:lenient:K "$room/fixdec_lines" read:en:lenient:K
+  timed compact 'numfmt --from=si' numfmt --from=si
+done
+table read:en:K read:en:lenient:K 'numfmt --from=si'
+
 some=$((lines < 100000 ? lines : 100000))
 # instructions INPUT PROGRAM [WORD]..: those of a line, on average over some, without those of a run on no line.
 instructions() {
@@ -180,6 +191,7 @@ echo "| fixdec_lines of a field | $(instructions fields "$room/fixdec_lines" del
 echo "| fixdec_lines of CSV | $(instructions fields "$room/fixdec_lines" csv field:3 $round) |"
 echo "| read:en format:en-IN | $(instructions grouped "$room/fixdec_lines" read:en $round format:en-IN) |"
 echo "| format:en | $(instructions amounts "$room/fixdec_lines" format:en) |"
+echo "| read:en:K | $(instructions words "$room/fixdec_lines" read:en:K) |"
 echo "| $money | $(instructions amounts "$room/fixdec_lines" "$money") |"
 echo "| $money, rounded | $(instructions plain "$room/fixdec_lines" "$money") |"
 echo "| strtod | $(instructions plain "$room/strtod") |"

@@ -64,10 +64,10 @@ typedef enum fd_status {
     FD_SKELETON_SYNTAX = 16, /* the text is no skeleton, or not UTF-8, from byte `at` on; or it is outside the texts */
     FD_SKELETON_UNSUPPORTED = 17,    /* the library has no such option as the stem at byte `at` of the skeleton */
     FD_UNKNOWN_NUMBERING_SYSTEM = 18, /* no numbering system is known by the name in the options */
-    FD_UNREADABLE_FORMAT = 19, /* the numbers of the options are not read: they have words of compact notation, two have
-                                  the same text, or a text of the unit has no number. With an exponent also: its minus
-                                  sign is not written, a unit or a name of a currency is, numbers are rounded to an
-                                  increment, or integer digits are cut off */
+    FD_UNREADABLE_FORMAT = 19, /* the numbers of the options are not read: two have the same text, or a text of the unit
+                                  or a word of compact notation has no number. With an exponent or in compact notation
+                                  also: a unit or a name of a currency is written, numbers are rounded to an increment,
+                                  integer digits are cut off, or the minus sign of the exponent is not written */
     FD_DIGIT_OPTIONS = 20,     /* the numbers of digits are those of no format, by the fd_digit_reason at */
     FD_NO_SKELETON = 21,       /* no skeleton has these options */
     FD_FORMATTER = 22,         /* the bytes are no fd_formatter */
@@ -464,7 +464,8 @@ fd_result fd_format_number(const uint8_t *text, size_t count, const uint8_t *tag
 /* Reads a number as fd_format_number writes it by this tag and these options, and writes the own text of the value that
  * it shows, with the scale undone: -1234.50 of "-1.234,50 €" by "de" and the currency EUR. It has all its grouping
  * separators, or none. If lenient is not 0, it may be as people type it: with other spaces and separators, and with
- * the symbol or the code of the currency, or the percent sign, on either side, or with nothing around it.
+ * the symbol or the code of the currency, or the percent sign, on either side, or with nothing around it. In compact
+ * notation "1.25M" is 1250000 by "en"; if lenient is not 0, "1250K" is too.
  *
  * The buffer is as after fd_run. It allocates.
  * Errors, the first that holds: of the options and the tag as fd_format_number; FD_UNREADABLE_FORMAT; FD_SYNTAX,

@@ -165,7 +165,7 @@ if command -v sqlite3 > /dev/null && echo '#include <sqlite3ext.h>' | gcc -E -x 
   done
   rejects fixdec "'1x', 'trim-end'|start: syntax" "'10', 'trim-end', 'shift:32767'|call 1: overflow" \
     "'1', 'trimm'|no such call" "'1', 'round:0:up:1'|no such call" "'1', 'format:tlh'|unknown locale" \
-    "'1', 'round:0:ceil:3'|no such call" "'12', 'concat:25'|call 0: overlap" "'1', 'read:de:K'|skeleton: no reader" \
+    "'1', 'round:0:ceil:3'|no such call" "'12', 'concat:25'|call 0: overlap" "'1', 'read:fr:KK'|skeleton: no reader" \
     "'1', 'format:de:'|no such call" "'1', 'read:de:lenient:'|no such call" "'1 USD', 'read:de:currency/EUR'|start: syntax" \
     "'x', 'read:de:percent/w'|skeleton: syntax at 7" "'x', 'format:de:percent/w'|skeleton: syntax at 7" "'1', 'format:tlh:K'|unknown locale" \
     "'1e32766', 'shift:1', 'format:en:scale/100'|format: overflow" "zeroblob(1000001)|start: syntax"
@@ -182,7 +182,7 @@ if command -v sqlite3 > /dev/null && echo '#include <sqlite3ext.h>' | gcc -E -x 
   rejects try_fixdec "'1', 'trimm'|no such call" "'x', 'format:tlh'|unknown locale" "'1', 'concat:x'|call 0: syntax" \
     "'x', 'format:de:percent/w'|skeleton: syntax at 7"
   rejects try_read_number "'tlh', '', 'x'|unknown locale" "'en', 'style', 'units', 'x'|no such option" \
-    "'en', 'K', 'x'|skeleton: no reader" "'en', 'notation', 'compact', 'x'|no reader of such numbers"
+    "'vec', 'K', 'x'|skeleton: no reader" "'vec', 'notation', 'compact', 'x'|no reader of such numbers"
   rejects plural "'one: n =', '1'|rules: syntax at 8" "'xx', '1'|unknown locale" "'en:nominal', '1'|rules: syntax at 0" \
     "'en', '1x'|start: syntax"
   rejects format_number "'tlh', 'percent/w', 'x'|skeleton: syntax at 7" "'en', '.00 rounding-mode-half-odd', '1'|skeleton: unsupported at 4" \
@@ -201,8 +201,8 @@ if command -v sqlite3 > /dev/null && echo '#include <sqlite3ext.h>' | gcc -E -x 
     "'en', 'style', CAST(x'70657263656e7400' AS TEXT), 5|no such option" "'en', 'useGrouping', 0, 5|no such option" \
     "'en', 'numberingSystem', 'arab ', 5|no such option" "'en', 'numberingSystem', CAST(x'00' AS TEXT), 5|no such option" \
     "'en', 'numberingSystem', '', 5|unknown option"
-  rejects read_number "'en', 'notation', 'compact', '1'|no reader of such numbers" "'en', 'notation', 'standard', '1x'|start: syntax" \
-    "'en', 'K', '1'|skeleton: no reader" "'en', 'percent/w', 'x'|skeleton: syntax at 7" "'en', 'style', '1'|skeleton: syntax at 0"
+  rejects read_number "'vec', 'notation', 'compact', '1'|no reader of such numbers" "'en', 'notation', 'standard', '1x'|start: syntax" \
+    "'fr', 'KK', '1'|skeleton: no reader" "'en', 'K', '1200'|start: syntax" "'en', 'percent/w', 'x'|skeleton: syntax at 7" "'en', 'style', '1'|skeleton: syntax at 0"
   # A formatter is kept for the rows with the same arguments before the number, and for no others.
   space=$'\u00a0'
   for amounts in "format_number('de', 'style', 'currency', 'currency', column1, column2)" "format_number('de', 'currency/' || column1, column2)"; do

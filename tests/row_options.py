@@ -38,7 +38,10 @@ WORDS = {name: words.split() for name, words in WORDS.items()}
 FIELDS = {"useGrouping": "grouping", "trailingZeroDisplay": "trailing_zeros"}
 COUNTS = ["minimumIntegerDigits", "minimumFractionDigits", "maximumFractionDigits", "minimumSignificantDigits",
           "maximumSignificantDigits", "roundingIncrement"]
+LENGTHS = ["short", "long"]
 SCALES = {"percent": 2, "permille": 3}
+FRACTION = ["minimum_fraction_digits", "maximum_fraction_digits"]
+SIGNIFICANT = ["minimum_significant_digits", "maximum_significant_digits"]
 PRECISIONS = ["all", "fraction", "multiples", "significant", "more", "less"]
 # What options have beyond those of ECMA-402.
 BEYOND = ["integer", "scientific", "engineering", "groupSizes", *PRECISIONS]
@@ -78,6 +81,13 @@ def set_bytes(struct, field, text, size):
     setattr(struct, field, type(getattr(struct, field))(*text.encode().ljust(size)))
 
 
+def set_number(struct, field, number):
+    """Sets a field to a number, which has to fit."""
+    setattr(struct, field, number)
+    if getattr(struct, field) != number:
+        raise ValueError(f"{field} does not hold {number}")
+
+
 def set_option(struct, name, value):
     """Sets an option that both structs have."""
     if name in WORDS:
@@ -91,8 +101,10 @@ def set_option(struct, name, value):
     elif name == "unit":
         struct.unit, struct.per_unit = unit(value)
     elif name in COUNTS or name == "scale":
-        setattr(struct, field_of(name), int(value))
-    elif name not in BEYOND and name not in ("check", "compactDisplay"):
+        set_number(struct, field_of(name), int(value))
+    elif name == "compactDisplay":
+        LENGTHS.index(value)
+    elif name not in BEYOND and name != "check":
         raise ValueError(f"no such option: {name}")
 
 
@@ -105,8 +117,13 @@ def set_options(struct, options):
         struct.notation = WORDS["notation"].index(notation)
 
 
-def pair(words):
-    return [int(it) for it in words.split(",")]
+def set_pair(struct, fields, words):
+    """Sets two fields to numbers with a comma between them."""
+    numbers = words.split(",")
+    if len(numbers) != len(fields):
+        raise ValueError(f"no two numbers: {words}")
+    for field, number in zip(fields, numbers):
+        set_number(struct, field, int(number))
 
 
 def set_precision(struct, name, value):
@@ -114,14 +131,14 @@ def set_precision(struct, name, value):
     struct.precision, struct.rounding_increment = PRECISIONS.index(name), 1
     words = value.split(";")
     if name == "multiples":
-        struct.maximum_fraction_digits, struct.rounding_increment = pair(value)
+        set_pair(struct, ("maximum_fraction_digits", "rounding_increment"), value)
         struct.minimum_fraction_digits = struct.maximum_fraction_digits
     elif name == "significant":
-        struct.minimum_significant_digits, struct.maximum_significant_digits = pair(value)
+        set_pair(struct, SIGNIFICANT, value)
     else:
-        struct.minimum_fraction_digits, struct.maximum_fraction_digits = pair(words[0])
+        set_pair(struct, FRACTION, words[0])
     if name in ("more", "less"):
-        struct.minimum_significant_digits, struct.maximum_significant_digits = pair(words[1])
+        set_pair(struct, SIGNIFICANT, words[1])
         struct.zeros = ["chosen", "both"].index(words[2])
 
 
@@ -131,12 +148,13 @@ def set_beyond(struct, options):
         if name in PRECISIONS:
             set_precision(struct, name, value)
         elif name == "integer":
-            struct.minimum_integer_digits, struct.maximum_integer_digits = pair(value)
+            set_pair(struct, ("minimum_integer_digits", "maximum_integer_digits"), value)
         elif name == "groupSizes":
             struct.group_sizes = ["locale", "thousands"].index(value)
         elif name in BEYOND:
             digits, sign = value.split(",")
-            struct.exponent_digits, struct.exponent_sign = int(digits), ["auto", "always", "never"].index(sign)
+            set_number(struct, "exponent_digits", int(digits))
+            struct.exponent_sign = ["auto", "always", "never"].index(sign)
 
 
 def has_beyond(options):
@@ -153,12 +171,20 @@ def number_options(options):
     return struct
 
 
+def named(pairs):
+    """A dictionary of names and values, each name once."""
+    found = dict(pairs)
+    if len(found) < len(pairs):
+        raise ValueError(f"a name is there twice: {pairs}")
+    return found
+
+
 def parse_options(words):
     """The options of words, or of JSON; None if a field is neither."""
     if words[:1] != "{":
-        return dict(word.split("=", 1) for word in words.split()) if "=" in words or not words else None
+        return named([word.split("=", 1) for word in words.split()]) if "=" in words or not words else None
     shown = {"True": "always", "true": "always", "False": "false"}
-    found = {name: str(value) for name, value in json.loads(words).items()}
+    found = {name: str(value) for name, value in json.loads(words, object_pairs_hook=named).items()}
     return {name: shown.get(value, value) if name == "useGrouping" else value for name, value in found.items()}
 
 

@@ -11,6 +11,8 @@ A row has fields with tabs between them. Blank lines, and lines that start with 
     [LOCALE] OPTIONS NUMBER TEXT        A number by options, in `en` without a locale. OPTIONS: words `name=value` or
                                         JSON, as `row_options.py` says. TEXT: the text, or the name of the error.
     [LOCALE] OPTIONS TEXT VALUE         With `check=read` or `check=lenient`.
+    OPTIONS COUNT LOCALES               With `check=readers`: in COUNT locales such numbers are read, of all that
+                                        tools/locales/symbols.tsv has; and those in which they are not, with blanks.
     [LOCALE] OPTIONS NUMBER PARTS       With `check=parts`: `|kind=text` each; or JSON, a list of lists.
     LOCALE OPTIONS START END TEXT       A range of two numbers, or its parts, each with its source.
     [LOCALE] OPTIONS START..END PARTS   The same with `check=parts`: `|kind=text@source` each.
@@ -18,9 +20,9 @@ A row has fields with tabs between them. Blank lines, and lines that start with 
                                         and another skeleton that has the same options; or `>` and the skeleton that
                                         they are printed as, which has the same (`crates/cli_vectors` prints it).
 
-Each row of a file wrong.tsv has to fail. Of options that are rejected the number is empty, and the text may also be the
-class of ECMA-402's error. In numbers and texts `0*3` after a space is `000`; in skeletons `«@*3»` is `@@@`, and `␉`,
-`␊` and `␍` are a tab, a line feed and a carriage return.
+Each row of a file wrong.tsv has to fail, and each of a file malformed.tsv to be none of these. Of options that are
+rejected the number is empty, and the text may also be the class of ECMA-402's error. In numbers and texts `0*3` after a
+space is `000`; in skeletons `«@*3»` is `@@@`, and `␉`, `␊` and `␍` are a tab, a line feed and a carriage return.
 
 `node tools/locales/node.js vectors` writes rows of decimals and categories for all locales, by the node that is
 installed, which has to be node 20 for the texts of CLDR 48.
@@ -31,6 +33,7 @@ import ctypes
 import functools
 import glob
 import json
+import os
 import re
 import sys
 import unicodedata
@@ -43,6 +46,9 @@ OK, SYNTAX, LIMIT, TOO_SMALL = (NUMBERS[f"FD_{name}"] for name in ("OK", "SYNTAX
 OVERFLOW, UNKNOWN_LOCALE = NUMBERS["FD_OVERFLOW"], NUMBERS["FD_UNKNOWN_LOCALE"]
 UNREADABLE, DIGIT_OPTIONS = NUMBERS["FD_UNREADABLE_FORMAT"], NUMBERS["FD_DIGIT_OPTIONS"]
 SKELETON_SYNTAX, UNSUPPORTED = NUMBERS["FD_SKELETON_SYNTAX"], NUMBERS["FD_SKELETON_UNSUPPORTED"]
+STANDARD, COMPACT = NUMBERS["FD_STANDARD"], (NUMBERS["FD_COMPACT_SHORT"], NUMBERS["FD_COMPACT_LONG"])
+CURRENCY, UNIT, NAME = NUMBERS["FD_CURRENCY"], NUMBERS["FD_UNIT"], NUMBERS["FD_NAME"]
+BY_INCREMENT, EXPONENT_NEVER = NUMBERS["FD_BY_INCREMENT"], NUMBERS["FD_EXPONENT_NEVER"]
 
 # The names and the classes of errors of digit options, by fd_digit_reason.
 REASONS = [("IntegerDigits", "RangeError"), ("Increment", "RangeError"), ("SignificantDigits", "RangeError"),
@@ -56,10 +62,16 @@ KINDS = ["integer", "group", "decimal", "fraction", "minusSign", "plusSign", "pe
          "compact", "unit", "exponentSeparator", "exponentMinusSign", "exponentPlusSign", "exponentInteger",
          "approximatelySign"]
 SOURCES = ["shared", "startRange", "endRange"]
-UNIT_OPTIONS = ["style", "unit", "unitDisplay", "numberingSystem"]
+# The options of what is around a number.
+TEXT_OPTIONS = ["style", "unit", "unitDisplay", "currency", "currencyDisplay", "currencySign", "notation",
+                "compactDisplay", "numberingSystem"]
+HANIDEC = {digit: value for value, digit in enumerate("〇一二三四五六七八九")}
 NEGATIVE = set("-(\u2212\u2010\u2011\u2012\ufe63\uff0d")
 ROOM = ctypes.create_string_buffer(1 << 18)
 PARTS = (TYPES["fd_part"] * (1 << 16))()
+CHECKS = [None, "parts", "read", "lenient", "readers"]
+# What rows of a file are, if they do not hold: False, or None for no rows.
+WANTED = {"wrong.tsv": False, "malformed.tsv": None}
 # No calls; C wants no null pointer.
 CALLS = TYPES["fd_call"]()
 
@@ -133,15 +145,40 @@ def are_shared(found):
 
 
 def has_number(text):
-    return any(unicodedata.category(it) == "Nd" for it in text)
+    return digits(text, "") != ""
 
 
-def may_be_unreadable(tag, options):
-    """Whether there may be no reader: in standard notation only if the unit has texts without a number."""
-    if {"scientific", "engineering"} & options.keys() or options.get("notation", "standard") != "standard":
+def plain_texts(tag, options, numbers):
+    """The texts of numbers by options, with the digits that they have by default, and without a scale."""
+    words = [f"{name}={options[name]}" for name in TEXT_OPTIONS if name in options]
+    plain, _ = formatter(tag, " ".join([*words, "scale=0"]))
+    return [formatted(plain, number) for number in numbers]
+
+
+def has_unreadable_unit(tag, options):
+    """Whether the unit has texts without a number."""
+    return not all(map(has_number, plain_texts(tag, options, map(str, range(101)))))
+
+
+def has_unreadable_words(tag, options):
+    """Whether a number has a word without a number, or two numbers have the same text."""
+    texts = plain_texts(tag, options, [f"{digit}e{power}" for digit in (1, 2, 3, 5) for power in range(16)])
+    return len(set(texts)) < len(texts) or not all(map(has_number, texts))
+
+
+def may_be_unreadable(made, tag, options):
+    """Whether there may be no reader: of a unit or words without a number, of words with two meanings, and of numbers
+    that are not in standard notation with a name around them, with an increment, or with an exponent without a sign."""
+    own = made.formatter.options
+    if own.scale == -32768 or own.minimum_integer_digits == 0 or own.decimal_separator:
         return True
-    plain, _ = formatter(tag, " ".join(f"{name}={options[name]}" for name in UNIT_OPTIONS if name in options))
-    return options.get("style") == "unit" and not all(has_number(formatted(plain, str(it))) for it in range(101))
+    if own.notation == STANDARD:
+        return own.style == UNIT and has_unreadable_unit(tag, options)
+    if own.style == UNIT or own.style == CURRENCY and own.currency_display == NAME:
+        return True
+    if own.precision == BY_INCREMENT or own.maximum_integer_digits < 32768:
+        return True
+    return has_unreadable_words(tag, options) if own.notation in COMPACT else own.exponent_sign == EXPONENT_NEVER
 
 
 def reads_back(made, tag, options, text):
@@ -149,7 +186,7 @@ def reads_back(made, tag, options, text):
     is rounded once more."""
     value = read(made, text, 0)
     if value == UNREADABLE:
-        return may_be_unreadable(tag, options) or made.formatter.options.scale == -32768
+        return may_be_unreadable(made, tag, options)
     if text.endswith("E-32769"):
         return value == LIMIT
     if not isinstance(value, str) or read(made, text, 1) != value:
@@ -193,8 +230,10 @@ def is_range(made, start, end, text):
 
 # ---- Texts that are read.
 
-def digits(text):
-    return "".join(str(digit) for it in text if (digit := unicodedata.decimal(it, None)) is not None).strip("0")
+def digits(text, zeros="0"):
+    """The digits of a text, without zeros at the ends."""
+    found = (unicodedata.decimal(it, HANIDEC.get(it)) for it in text)
+    return "".join(str(digit) for digit in found if digit is not None).strip(zeros)
 
 
 def is_own(made, text):
@@ -242,21 +281,52 @@ def reads(made, options, text, expected):
     return (has_exponent or is_only_text(made, text.encode(), expected)) and read(made, text, 1) == expected
 
 
+@functools.lru_cache(None)
+def locales():
+    """The tags of all locales."""
+    with open(f"{ROOT}/tools/locales/symbols.tsv", encoding="utf-8") as file:
+        return sorted({line.split("\t")[0] for line in file} - {"root"})
+
+
+def has_reader(tag, words):
+    """Whether numbers by options are read in a locale: then no number has the empty text."""
+    made, _ = formatter(tag, words)
+    if made.status != OK:
+        raise ValueError(f"no such numbers in {tag}: {words}")
+    return read(made, "", 0) == SYNTAX
+
+
+@functools.lru_cache(None)
+def unread(words):
+    """The tags of the locales in which numbers by options are not read."""
+    return [tag for tag in locales() if not has_reader(tag, words)]
+
+
+def are_readers(words, count, expected):
+    """Whether numbers by options are read in a number of locales, and not in those that are expected."""
+    return count == str(len(locales()) - len(unread(words))) and expected == " ".join(unread(words))
+
+
 def is_number(tag, words, options, fields, expected):
     """Whether a row of options holds."""
+    checked = options.get("check")
+    if checked not in CHECKS or len(fields) > 2 or len(fields) == 2 and checked not in (None, "parts"):
+        raise ValueError(f"no check of {len(fields)} texts: {checked}")
+    if checked == "readers":
+        return are_readers(words, *fields, expected)
     made, number = formatter(tag, words)
     if made.status == DIGIT_OPTIONS:
         return fields == [""] and expected in REASONS[made.at]
     if made.status != OK:
         return False
-    if options.get("check") == "parts" or expected.startswith("[["):
+    if checked == "parts" or expected.startswith("[["):
         return has_parts(made, fields if len(fields) == 2 else fields[0].split(".."), expected)
     if len(fields) == 2:
         return is_range(made, *fields, expected)
     text, expected = expanded(fields[0]), expanded(expected)
-    if options.get("check") == "read":
+    if checked == "read":
         return reads(made, options, text, expected)
-    if options.get("check") == "lenient":
+    if checked == "lenient":
         value = read(made, text, 1)
         return READ_ERRORS.get(value, value) == expected
     return has_text(made, number, options, tag, expected, text)
@@ -325,7 +395,7 @@ def is_skeleton(skeleton, expected):
     """Whether a skeleton has options or an error."""
     found = reading(unescaped(skeleton))
     if expected[:1] in ("=", ">"):
-        return found == reading(unescaped(expected[1:]))
+        return isinstance(found, dict) and found == reading(unescaped(expected[1:]))
     if expected.startswith(("syntax ", "unsupported ")):
         return found == unescaped(expected)
     return found == options_of_words(expected)
@@ -333,6 +403,8 @@ def is_skeleton(skeleton, expected):
 
 def holds(fields):
     """Whether a row holds."""
+    if not 2 <= len(fields) <= 5:
+        raise ValueError(f"no row has {len(fields)} fields")
     if len(fields) == 2:
         return is_skeleton(*fields)
     if len(fields) == 3:
@@ -343,20 +415,32 @@ def holds(fields):
         return is_number(tag, words, options, numbers, expected)
     if len(numbers) == 2:
         tag, words, numbers = f"{tag}-u-nu-{words}", numbers[0], numbers[1:]
+    if words not in RULES + READINGS + GROUPINGS:
+        raise ValueError(f"no such word: {words}")
     return (is_category if words in RULES else is_decimal)(tag, words, *numbers, expected)
+
+
+def outcome(line):
+    """Whether a line is a row that holds; None if it is no row."""
+    try:
+        return holds(line.rstrip("\n").split("\t"))
+    except (ValueError, LookupError):
+        return None
 
 
 def check(name, line, index, failures):
     """Checks a line, and appends it to the failures if it is a row that fails; returns the number of rows."""
     if line.startswith("# ") or line == "\n":
         return 0
-    if holds(line.rstrip("\n").split("\t")) == name.endswith("wrong.tsv"):
+    if outcome(line) is not WANTED.get(os.path.basename(name), True):
         failures.append(f"{name}, line {index}: {line[:300].rstrip()}")
     return 1
 
 
 def main(names):
     count, failures = 0, []
+    if not names:
+        sys.exit("no files of rows")
     for name in names:
         with open(name, encoding="utf-8", newline="\n") as file:
             found = sum(check(name, line, index, failures) for index, line in enumerate(file, 1))

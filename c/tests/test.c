@@ -446,7 +446,11 @@ static void test_read_number(void) {
         {"12,5\xc2\xa0%", "fr", OPTIONS(.style = FD_PERCENT, .scale = 2), 0, FD_OK, "0.125"},
         {"EUR 1.234,5", "de", OPTIONS(MONEY("EUR")), 1, FD_OK, "1234.5"},
         {"EUR 1.234,5", "de", OPTIONS(MONEY("EUR")), 0, FD_SYNTAX, ""},
-        {"1", "de", OPTIONS(.notation = FD_COMPACT_SHORT), 1, FD_UNREADABLE_FORMAT, ""},
+        {"1", "fr", OPTIONS(.notation = FD_COMPACT_LONG), 1, FD_UNREADABLE_FORMAT, ""},
+        {"-1,25\xc2\xa0Mio.", "de", OPTIONS(.notation = FD_COMPACT_SHORT), 0, FD_OK, "-1250000"},
+        {"1250 Tausend", "de", OPTIONS(.notation = FD_COMPACT_LONG), 0, FD_SYNTAX, ""},
+        {"1250 Tausend", "de", OPTIONS(.notation = FD_COMPACT_LONG), 1, FD_OK, "1250000"},
+        {"$1.2M", "en", OPTIONS(MONEY("USD"), .notation = FD_COMPACT_SHORT), 0, FD_OK, "1200000"},
         {"1", "xx", OPTIONS(.notation = FD_COMPACT_SHORT), 0, FD_UNKNOWN_LOCALE, ""},
         {"x", "xx", OPTIONS(.style = 5), 0, FD_UNKNOWN_OPTION, ""},
         {"1,50 Euro", "de", OPTIONS(MONEY("EUR"), .currency_display = FD_NAME), 0, FD_OK, "1.50"},
@@ -668,7 +672,11 @@ static void test_read_by_skeleton(void) {
         {"12,5E-3", "de", "engineering", 0, FD_OK, "0.0125"},
         {"12E3", "en", "scientific", 0, FD_SYNTAX, NULL},
         {"x", "en", "scientific/sign-never", 0, FD_UNREADABLE_FORMAT, NULL},
-        {"x", "es", "K", 1, FD_UNREADABLE_FORMAT, NULL},
+        {"1,2\xc2\xa0mil", "es", "K", 0, FD_OK, "1200"},
+        {"1200", "es", "K", 0, FD_SYNTAX, NULL},
+        {"1200", "es", "K", 1, FD_OK, "1200"},
+        {"x", "vec", "K", 1, FD_UNREADABLE_FORMAT, NULL},
+        {"mille", "fr", "KK", 1, FD_UNREADABLE_FORMAT, NULL},
         {"x", "xx", "K", 0, FD_UNKNOWN_LOCALE, NULL},
         {"x", "xx", "percent/w", 0, FD_SKELETON_SYNTAX, NULL}};
     for (size_t i = 0; i < sizeof rows / sizeof *rows; i++) {
@@ -701,8 +709,9 @@ static void test_skeleton_forms(void) {
     CHECK(fd_convert(B("x"), &forms, FD_NONE(fd_call), 0, B("deK"), b, 64).status == FD_SKELETON_SYNTAX);
     forms.format = (fd_form){.start = 3, .count = 1, .skeleton_start = 2, .skeleton_count = 1};
     CHECK(fd_convert(B("x"), &forms, FD_NONE(fd_call), 0, B("deK"), b, 64).status == FD_UNKNOWN_LOCALE);
-    forms.read.skeleton_start = 2, forms.read.skeleton_count = 1;
-    CHECK(fd_convert(B("x"), &forms, FD_NONE(fd_call), 0, B("deK"), b, 64).status == FD_UNREADABLE_FORMAT);
+    forms.read.skeleton_start = 2, forms.read.skeleton_count = 2;
+    CHECK(fd_convert(B("x"), &forms, FD_NONE(fd_call), 0, B("frKK"), b, 64).status == FD_UNREADABLE_FORMAT);
+    forms.read.skeleton_count = 1;
     forms.read.skeleton_start = 3;
     CHECK(fd_convert(B("x"), &forms, FD_NONE(fd_call), 0, B("deK"), b, 64).status == FD_SKELETON_SYNTAX);
 }

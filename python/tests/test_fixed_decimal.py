@@ -238,6 +238,8 @@ def test_class():
         (Decimal.read("-1.234,50\xa0€", "de", skeleton="currency/EUR"), Decimal("-1234.50")),
         (Decimal.read("12.5%", "en", style="percent", maximum_fraction_digits=1), Decimal("0.125")),
         (Decimal.read("EUR 1.234,5", "de", style="currency", currency="EUR", lenient=True), Decimal("1234.5")),
+        (Decimal.read("-1,25\xa0Mio.", "de", notation="compact"), Decimal("-1250000")),
+        (Decimal.read("1250K", "en", skeleton="K", lenient=True), Decimal("1250000")),
         (Decimal.read("1.234,50", "de"), Decimal("1234.50")), (Decimal.read("9" * 300, "de"), Decimal("9" * 300)),
         (Decimal("1234.5").format(locale="de"), "1.234,5"), (Decimal("1234.5").format("de-" + "CH"), "1'234.5"),
         (len(str(Decimal("1").pad(end=-32768))), 32770), (len(Decimal("1" * 300).format("de")), 399),
@@ -281,8 +283,9 @@ def test_class():
     raises(DecimalError, lambda: Decimal.read("1", "tlh"), "unknown locale")
     raises(DecimalError, lambda: Decimal.read("\ud800", "de"), "syntax")
     raises(DecimalError, lambda: Decimal.read("1", "de", skeleton="percent/w"), "skeleton syntax")
-    raises(DecimalError, lambda: Decimal.read("1 Mio.", "de", notation="compact"), "unreadable format")
+    raises(DecimalError, lambda: Decimal.read("mille", "fr", skeleton="KK"), "unreadable format")
     raises(DecimalError, lambda: Decimal.read("EUR 1", "de", skeleton="currency/EUR"), "syntax")
+    raises(DecimalError, lambda: Decimal.read("1250K", "en", skeleton="K"), "syntax")
     raises(TypeError, lambda: Decimal.read("1", "de", skeleton="percent", style="percent"))
     raises(TypeError, lambda: Decimal.read("1"))
     raises(TypeError, lambda: Decimal.read(b"1", "de"), text="a text is a str, not bytes")
@@ -340,7 +343,7 @@ def test_messages():
         (lambda: Decimal.read("1x", "de"), "syntax: '1x'"), (lambda: Decimal.read("1", "tlh"), "unknown locale: 'tlh'"),
         (lambda: Decimal.read("1", "de", skeleton="rounding-mode-half-odd"),
          "skeleton unsupported: 'rounding-mode-half-odd'"),
-        (lambda: Decimal.read("1", "de", skeleton="K"), "unreadable format"),
+        (lambda: Decimal.read("1", "vec", skeleton="K"), "unreadable format"),
         (lambda: one.format("de", numbering_system="roman"), "unknown numbering system"),
         (lambda: one.format("de", **digits),
          "digit options: fraction digits are from 0 to 100, and the minimum is at most the maximum"),
@@ -351,7 +354,7 @@ def test_messages():
         (lambda: column(["1"], skeleton="K"), "unknown locale"),
         (lambda: column(["1"], read="de", read_skeleton=".00", format="de", skeleton="K0"), "skeleton syntax: 'K0'"),
         (lambda: column(["1"], read="de", read_skeleton="K0", format="de", skeleton="K"), "skeleton syntax: 'K0'"),
-        (lambda: column(["1"], read="de", read_skeleton="K"), "unreadable format"),
+        (lambda: column(["1"], read="vec", read_skeleton="K"), "unreadable format"),
     ):
         raises(DecimalError, call, text=message)
     raises(ValueError, lambda: one.format("de", style="currency"),
@@ -592,7 +595,7 @@ def test_errors_of_number_formats():
         (lambda: NumberFormat("de", skeleton="scale/100").format("1e32767"), "overflow: '1e32767'"),
         (lambda: NumberFormat("de", skeleton="scale/100").format_to_parts("1e32767"), "overflow: '1e32767'"),
         (lambda: euros.read("5 USD"), "syntax: '5 USD'"), (lambda: euros.read("\ud800"), "syntax: '\\ud800'"),
-        (lambda: NumberFormat("de", notation="compact").read("1"), "unreadable format"),
+        (lambda: NumberFormat("vec", notation="compact").read("1"), "unreadable format"),
         (lambda: NumberFormat("tlh"), "unknown locale: 'tlh'"), (lambda: NumberFormat(""), "unknown locale: ''"),
         (lambda: NumberFormat("\udcff"), "unknown locale: '\\udcff'"),
         (lambda: NumberFormat("tlh", skeleton="percent/w"), "skeleton syntax: 'percent/w'"),
@@ -986,7 +989,7 @@ def test_column(cases):
     raises(DecimalError, lambda: column([], read="tlh"), "unknown locale")
     raises(DecimalError, lambda: column([], format="de", skeleton="percent/w"), "skeleton syntax")
     raises(DecimalError, lambda: column([], skeleton="percent"), "unknown locale")
-    raises(DecimalError, lambda: column([], read="de", read_skeleton="K"), "unreadable format")
+    raises(DecimalError, lambda: column([], read="vec", read_skeleton="K"), "unreadable format")
     # The first text that fails, in the calls or in the format, and its number.
     scaled = NumberFormat("en", skeleton="scale/100")
     for texts, calls, line in (

@@ -118,8 +118,8 @@ pub enum NumberFormatError {
 pub enum NumberReadError {
     /// There is no such format.
     Format(NumberFormatError),
-    /// The numbers of the format are not read: they have words, a unit or an exponent without its minus sign, or two
-    /// have the same text.
+    /// The numbers of the format are not read: two have the same text, a text of the unit or a word has no number, or
+    /// an exponent is written without its minus sign.
     Unreadable,
     /// The text is not a number in this form.
     Text(ParseError),

@@ -470,7 +470,11 @@ fn errors_of_number_formats() {
     assert_eq!(scaled.format(&decimal("1e32767")).unwrap_err(), LimitError);
     assert_eq!(scaled.parts(&decimal("1e32767")).unwrap_err(), LimitError);
     let compact = NumberFormat::new("en", &Options::compact(CompactLength::Short)).unwrap();
-    assert_eq!(compact.read("x"), Err(NumberReadError::Unreadable));
+    assert_eq!(compact.read("1.25M"), Ok(decimal("1250000")));
+    assert_eq!(compact.read("1250K"), Err(NumberReadError::Text(ParseError::Syntax)));
+    assert_eq!(compact.read_lenient("1250K"), Ok(decimal("1250000")));
+    let words = NumberFormat::new("fr", &Options::compact(CompactLength::Long)).unwrap();
+    assert_eq!(words.read("mille"), Err(NumberReadError::Unreadable));
     assert_eq!(scaled.read("5"), Err(NumberReadError::Text(ParseError::Syntax)));
     assert_eq!(scaled.read_lenient("5"), Ok(decimal("0.05")));
     assert_eq!(scaled.read(&format!("{}%", "1".repeat(32769))), Err(NumberReadError::Text(ParseError::Limit)));

@@ -23,9 +23,10 @@ AreSuffixesApart s p q =
 abbrev pub ArePairApart : Symbols → Affixes → Affixes → Type 0
 ArePairApart s a b = ArePrefixesApart s a.prefix b.prefix ⊎ AreSuffixesApart s a.suffix b.suffix
 
--- two patterns have the same texts and show the same sign, as `{0} fish` of `one` and `other`
+-- two patterns have the same texts, show the same sign and stand for the same power of ten, as `{0} fish` of `one` and
+-- `other`
 abbrev pub AreSame : NumberPattern → NumberPattern → Type 0
-AreSame p q = (p.affixes ≡ q.affixes) × (p.sign ≡ q.sign)
+AreSame p q = (p.affixes ≡ q.affixes) × (p.sign ≡ q.sign) × (p.exponent ≡ q.exponent)
 
 -- no text is around numbers by both patterns, unless they are the same
 abbrev pub AreToldApart : Symbols → NumberPattern → NumberPattern → Type 0

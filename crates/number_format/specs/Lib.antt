@@ -3,6 +3,7 @@ pub mod ShownDigits
 pub mod Resolved
 pub mod Scaled
 pub mod AffixedTexts
+pub mod CompactReading
 pub mod TextParts
 pub mod DefaultDigits
 pub mod DefaultOptions

@@ -1,20 +1,17 @@
 -- What a formatter writes, read exactly and as people type it.
-use Rattle.std.specs.{Prelude.{◌≡◌, ◌≢◌, ℕ, ◌⊎◌, true, false, List, [], ◌∷◌, ◌++◌, map, flat_map, codes, Option, None, Some, Result, Err, ◌-ℤ◌, pos, negsuc}, Str.IsUtf8}
+use Rattle.std.specs.{Prelude.{◌≡◌, ◌≢◌, ℕ, ◌⊎◌, true, false, List, [], ◌∷◌, ◌++◌, map, flat_map, codes, Option, None, Some, option_map, Result, Err, ◌-ℤ◌, pos, negsuc, ⊤}, Str.IsUtf8}
 use Rattle.decimal_unsigned.specs.declared.error.ParseError.{ParseError, TheVariants.Syntax}
 use Rattle.fixed_decimal.specs.{Decimal.Decimal, declared.variations.Sign.Sign}
 use Rattle.plural_rules.specs.declared.rules.PluralCategory.{PluralCategory}
 use Rattle.decimal_format.specs.{Readable.IsReadable, Symbols.{Affixes, affixes}, declared.reader.alternatives.Alternative.Alternative}
-use Rattle.number_format.specs.{declared.{digits.options.DigitOptions.DigitOptions, format.{outer.OuterTexts.OuterTexts, formatter.NumberFormatter.NumberFormatter}, options.{DecimalSeparatorDisplay.DecimalSeparatorDisplay, NumberNotation.NumberNotation, NumberStyle.NumberStyle}, read.{pattern.{NumberPattern.NumberPattern, TheConstants.{SIGN_KEYS, CATEGORY_KEYS}}, scientific.ExponentForm.ExponentForm, number_reader.{NumberReaderError.NumberReaderError, ParseMode.{ParseMode, TheVariants.{Strict, Lenient}}}}}, AffixedTexts.{AreNamed, Reader, IsReadExactly, IsReadTyped}, NumberText.{compact_style, needs_no_integer, outer_by, shown_number, shown_sign}, PatternTexts.{Around, around, affixes_for}, Scaled.{ScaledValue, HasNoIncrement}, ScientificReading.{exponent_form, CanReadExponent}, AffixedExponents.{IsReadWithExponent, IsTypedWithExponent}, TextParts.pieces_text}
+use Rattle.locale_data.specs.declared.compact.CompactStyle.{CompactStyle}
+use Rattle.number_format.specs.{declared.{digits.options.DigitOptions.DigitOptions, format.{outer.OuterTexts.OuterTexts, formatter.NumberFormatter.NumberFormatter}, options.{DecimalSeparatorDisplay.DecimalSeparatorDisplay, NumberNotation.NumberNotation, NumberStyle.NumberStyle}, read.{pattern.{NumberPattern.NumberPattern, TheConstants.{SIGN_KEYS, CATEGORY_KEYS}}, scientific.ExponentForm.ExponentForm, number_reader.{NumberReaderError.NumberReaderError, ParseMode.{ParseMode, TheVariants.{Strict, Lenient}}}}}, AffixedTexts.{AreNamed, Reader, IsReadExactly, IsReadTyped}, CompactReading.{HasCompactExponents, HasWordNumbers, AreWordsNamed, IsReadInWords, IsTypedInWords}, NumberText.{compact_style, needs_no_integer, outer_by, shown_number, shown_sign}, PatternTexts.{Around, around, affixes_for}, Scaled.{ScaledValue, HasNoIncrement}, ScientificReading.{exponent_form, CanReadExponent}, AffixedExponents.{IsReadWithExponent, IsTypedWithExponent}, TextParts.pieces_text}
 
 -- ---- Exactly.
 
 -- the notation is `Standard`: no words and no exponent
 abbrev pub IsStandard : NumberFormatter → Type 0
 IsStandard f = f.options.notation ≡ NumberNotation.Standard
-
--- no words of compact notation are written
-abbrev pub HasNoWords : NumberFormatter → Type 0
-HasNoWords f = compact_style f.options.notation f.options.style ≡ None
 
 -- no integer digit is cut off, as of 10.2E3 by one digit, which leaves `0.2E3`; and the number is rounded without an
 -- increment, since by multiples of 5 the text of 9 is `10E0`
@@ -27,10 +24,24 @@ abbrev pub CanReadExponents : NumberFormatter → Option ExponentForm → Type 0
 CanReadExponents f (Some form) = KeepsNotation f.digits × CanReadExponent f.style.symbols form
 CanReadExponents f None = ⊥
 
--- no exponent is written; or exponents that can be read, and no unit and no name of a currency
+-- the kind of compact patterns that are written, if there is one
+abbrev pub words_of : NumberFormatter → Option CompactStyle
+words_of f = compact_style f.options.notation f.options.style
+
+-- words are written, each with a number, and can be read
+abbrev pub CanReadWords : NumberFormatter → Option CompactStyle → Type 0
+CanReadWords f (Some style) = KeepsNotation f.digits × (HasCompactExponents f.notation × HasWordNumbers f style)
+CanReadWords f None = ⊥
+
+-- exponents or words are written that can be read, and no unit and no name of a currency
+abbrev pub CanReadAlone : NumberFormatter → Type 0
+CanReadAlone f =
+    (f.outer ≡ OuterTexts.None)
+    × (CanReadExponents f (exponent_form f f.options.notation) ⊎ CanReadWords f (words_of f))
+
+-- no exponent and no words are written, or some that can be read
 abbrev pub CanReadNotation : NumberFormatter → Type 0
-CanReadNotation f =
-    IsStandard f ⊎ ((f.outer ≡ OuterTexts.None) × CanReadExponents f (exponent_form f f.options.notation))
+CanReadNotation f = IsStandard f ⊎ CanReadAlone f
 
 -- and no decimal separator without fraction digits or without integer digits is written
 abbrev pub HasPlainDigits : NumberFormatter → Type 0
@@ -54,6 +65,7 @@ pattern_at f key = record {
       ((affixes_for f.style key.1).suffix ++ pieces_text (outer_at f key.0).suffix);
   sign = key.1;
   category = key.0;
+  exponent = pos 0;
 }
 
 -- each sign; and with a unit or a name each category and each sign
@@ -79,11 +91,17 @@ reader_of f = record {
 abbrev pub CanUndo : NumberFormatter → Type 0
 CanUndo f = HasPlainDigits f × HasNumbers f × (f.options.scale ≢ negsuc 32767)
 
+-- the texts with words are told apart, if there are any
+abbrev pub AreOwnWordsNamed : NumberFormatter → Option CompactStyle → Type 0
+AreOwnWordsNamed f (Some style) = AreWordsNamed f style
+AreOwnWordsNamed f None = ⊤
+
 -- the texts of the formatter are read: a text has at most one sign and one number
 pub record CanRead (f : NumberFormatter) : Type 0 where
   pub undo : CanUndo f
   pub readable : IsReadable f.style.symbols
   pub named : AreNamed f.style.symbols (patterns_of f)
+  pub words : AreOwnWordsNamed f (words_of f)
 
 -- what an error says; `Memory` is reported only where the texts are read
 abbrev pub CannotRead : NumberReaderError → NumberFormatter → Type 0
@@ -93,7 +111,8 @@ CannotRead NumberReaderError.Scale f = HasPlainDigits f × HasNumbers f × (f.op
 CannotRead NumberReaderError.Memory f = CanRead f
 CannotRead NumberReaderError.Symbols f = CanUndo f × ¬ IsReadable f.style.symbols
 CannotRead NumberReaderError.Affixes f =
-    CanUndo f × (IsReadable f.style.symbols × ¬ AreNamed f.style.symbols (patterns_of f))
+    CanUndo f
+    × (IsReadable f.style.symbols × ¬ (AreNamed f.style.symbols (patterns_of f) × AreOwnWordsNamed f (words_of f)))
 
 -- u is the number that the formatter shows of v: scaled, rounded, and with the sign that is written
 pub record IsShownAs (f : NumberFormatter) (v u : Decimal) : Type 0 where
@@ -145,34 +164,43 @@ typed_forms f =
 pub record NumberReader : Type 0 where
   pub texts : Reader
   pub exponent : Option ExponentForm
+  pub words : Option (NumberFormatter × CompactStyle)
   pub forms : List (Affixes × Sign)
+
+-- the formatter and its kind of compact patterns, if there is one
+abbrev pub word_formatter : NumberFormatter → Option (NumberFormatter × CompactStyle)
+word_formatter f = option_map (λ style. (f, style)) (words_of f)
 
 abbrev pub number_reader_of : NumberFormatter → NumberReader
 number_reader_of f = record {
   texts = reader_of f;
   exponent = exponent_form f f.options.notation;
+  words = word_formatter f;
   forms = typed_forms f;
 }
 
--- the result of reading a text exactly, with an exponent if the formatter writes one
-abbrev pub IsReadBy : ℕ → Reader → Option ExponentForm → List ℕ → Result Decimal ParseError → Type 0
-IsReadBy inline r None text result = IsReadExactly inline r text result
-IsReadBy inline r (Some form) text result = IsReadWithExponent inline r form text result
+-- the result of reading a text exactly, with an exponent or with words if the formatter writes them
+abbrev pub IsReadBy : ℕ → Reader → Option ExponentForm → Option (NumberFormatter × CompactStyle) → List ℕ
+    → Result Decimal ParseError → Type 0
+IsReadBy inline r None None text result = IsReadExactly inline r text result
+IsReadBy inline r None (Some w) text result = IsReadInWords inline w.0 w.1 text result
+IsReadBy inline r (Some form) words text result = IsReadWithExponent inline r form text result
 
 abbrev pub IsReadStrictly : ℕ → NumberReader → List ℕ → Result Decimal ParseError → Type 0
-IsReadStrictly inline r text result = IsReadBy inline r.texts r.exponent text result
+IsReadStrictly inline r text result = IsReadBy inline r.texts r.exponent r.words text result
 
 -- the result of lenient reading with alternatives
-abbrev pub IsTypedBy : ℕ → Reader → Option ExponentForm → List Alternative → List ℕ → Result Decimal ParseError
-    → Type 0
-IsTypedBy inline r None all text result = IsReadTyped inline r all text result
-IsTypedBy inline r (Some form) all text result = IsTypedWithExponent inline r form all text result
+abbrev pub IsTypedBy : ℕ → Reader → Option ExponentForm → Option (NumberFormatter × CompactStyle) → List Alternative
+    → List ℕ → Result Decimal ParseError → Type 0
+IsTypedBy inline r None None all text result = IsReadTyped inline r all text result
+IsTypedBy inline r None (Some w) all text result = IsTypedInWords inline w.0 w.1 r all text result
+IsTypedBy inline r (Some form) words all text result = IsTypedWithExponent inline r form all text result
 
 -- the result of lenient reading: by the first of these forms that has a number
 abbrev pub IsReadLeniently : ℕ → NumberReader → List ℕ → Result Decimal ParseError → Type 0
 IsReadLeniently inline r text result =
     (alternatives : List Alternative) × (map form_of alternatives ≡ r.forms)
-    × IsTypedBy inline r.texts r.exponent alternatives text result
+    × IsTypedBy inline r.texts r.exponent r.words alternatives text result
 
 -- the result of reading in a mode; leniently, a text that is not UTF-8 is `Syntax`
 abbrev pub IsReadInMode : ℕ → ParseMode → NumberReader → List ℕ → Result Decimal ParseError → Type 0

@@ -1,5 +1,5 @@
 -- White space and marks at the ends of a text, which are parts of their own, as ICU has them.
-use Rattle.std.specs.{Prelude.{ℕ, ◌-◌, ◌==◌, nat_le, Bool, ◌||◌, ◌&&◌, if◌then◌else◌, List, [], ◌∷◌, length, take, drop, reverse}, Str.{chars, encode_utf8_all}}
+use Rattle.std.specs.{Prelude.{ℕ, ◌-◌, ◌==◌, nat_le, Bool, ◌||◌, ◌&&◌, if◌then◌else◌, List, [], ◌∷◌, length, reverse}, Str.{chars, encode_utf8_all}}
 
 -- white space (the general category Zs, and U+0009), and the characters of Unicode's properties Bidi_Control and
 -- Variation_Selector

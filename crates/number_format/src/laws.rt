@@ -3,7 +3,7 @@ ghost use Rattle.std.specs.{Prelude.{◌≡◌, ◌≢◌, ◌*◌, ◌^◌, ◌
 ghost use Rattle.decimal_unsigned.specs.Unsigned.{Unsigned, IsValue};
 ghost use Rattle.fixed_decimal.specs.Decimal.{Decimal, with_sign_display};
 ghost use Rattle.decimal_format.specs.{Formatted.formatted, Readable.IsReadable, Symbols.{Symbols, sign_affixes}};
-ghost use Rattle.number_format.specs.{declared.read.{pattern.NumberPattern.NumberPattern, scientific.ExponentForm.ExponentForm}, FormattedNumbers.{hides_zero_of, number_text}, AffixedTexts.{Reader, AreNamed, between, IsWritten, IsShown, shifted, IsReadExactly}, Formatters.{plain_options, IsFormatterBy, IsFormatterAt, IsFormatter}, NumberReading.{IsStandard, reader_of, CanRead, IsShownAs}, NumberText.IsNumberText, ScientificReading.{CanReadExponent, exponent_form, HasExponentOf, notation_of, scientific_text, IsReadScientific}, AffixedExponents.IsReadWithExponent, ShownDigits.{rounded_with, applied, IsFractional, KeepsDigits}, Scaled.{KeepsExponent, KeepsValueOf}};
+ghost use Rattle.number_format.specs.{declared.read.{pattern.NumberPattern.NumberPattern, scientific.ExponentForm.ExponentForm}, FormattedNumbers.{hides_zero_of, number_text}, AffixedTexts.{Reader, AreNamed, between, IsWritten, IsShown, shifted, IsReadExactly}, Formatters.{plain_options, IsFormatterBy, IsFormatterAt, IsFormatter}, CompactReading.IsReadInWords, NumberReading.{IsStandard, words_of, reader_of, CanRead, IsShownAs}, NumberText.IsNumberText, ScientificReading.{CanReadExponent, exponent_form, HasExponentOf, notation_of, scientific_text, IsReadScientific}, AffixedExponents.IsReadWithExponent, ShownDigits.{rounded_with, applied, IsFractional, KeepsDigits}, Scaled.{KeepsExponent, KeepsValueOf}};
 
 use crate::digits::options::DigitOptions;
 use crate::digits::ranges::FractionDigits;
@@ -15,7 +15,7 @@ use crate::notation::Notation;
 use crate::options::{DecimalSeparatorDisplay, NumberNotation, NumberOptions};
 use decimal_format::GroupingStrategy;
 use fixed_decimal::{ParseError, Sign, SignDisplay};
-use locale_data::LocalCurrency;
+use locale_data::{CompactStyle, LocalCurrency};
 
 /// By `Precision::Fraction` a number with no more than the greatest number of fraction digits is kept, and the whole
 /// value if it shows the digits that the options show.
@@ -149,6 +149,24 @@ pub fn formatted_exponents_are_unique()
         (text : List ℕ) → IsFormatterAt ids o f → exponent_form f f.options.notation ≡ Some form → CanRead f
         → IsValue v.absolute → IsValue w.absolute → IsNumberText f v text → IsNumberText f w text
         → (p : IsShownAs f v x) (q : IsShownAs f w y) → (x ≡ y) × (p.number.exponent ≡ q.number.exponent) }
+{}
+
+/// What a formatter writes of a value in compact notation is read back by its reader as the number that is shown times
+/// the power of ten, with the scale undone. The number is rounded and has the sign that is written.
+pub fn formatted_words_read_back()
+    ensures { (inline : ℕ) (f : NumberFormatter) (style : CompactStyle) (v u : Decimal) (text : List ℕ)
+        (result : Result Decimal ParseError) → words_of f ≡ Some style → CanRead f → IsValue v.absolute
+        → IsNumberText f v text → (shown : IsShownAs f v u) → IsReadInWords inline f style text result
+        → (result ≡ shifted (reader_of f).shift (shifted shown.number.exponent (Ok u)))
+        ⊎ (result ≡ Err ParseError.Memory) }
+{}
+
+/// Of a formatter in compact notation whose texts are read two numbers that are shown have different texts.
+pub fn formatted_words_are_unique()
+    ensures { (f : NumberFormatter) (style : CompactStyle) (v w x y : Decimal) (text : List ℕ)
+        → words_of f ≡ Some style → CanRead f → IsValue v.absolute → IsValue w.absolute → IsNumberText f v text
+        → IsNumberText f w text → (p : IsShownAs f v x) (q : IsShownAs f w y)
+        → (x ≡ y) × (p.number.exponent ≡ q.number.exponent) }
 {}
 
 /// The digits and the exponent that a formatter writes are a text by its form of exponents. This holds if no decimal

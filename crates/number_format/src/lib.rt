@@ -3,7 +3,7 @@
 //! - [`NumberFormatter`] writes a number in a locale by [`NumberOptions`]: plain numbers, percent, permille, money and
 //!   units, in standard, scientific, engineering and compact notation.
 //! - [`NumberFormatter::format_range`] writes a range of two numbers: `3–5 km`.
-//! - [`NumberReader`] reads what a formatter writes in standard, scientific and engineering notation.
+//! - [`NumberReader`] reads what a formatter writes.
 //! - [`DigitOptions`] and [`Notation`] decide which digits are shown, and the exponent:
 //!   `SetNumberFormatDigitOptions`, `FormatNumericToString` and `ComputeExponent` of ECMA-402.
 //!

@@ -1,6 +1,7 @@
 //! Reading of what a formatter writes.
 mod affix_reader;
 mod apart;
+mod compact;
 pub(crate) mod number_reader;
 mod owned_affixes;
 pub(crate) mod pattern;

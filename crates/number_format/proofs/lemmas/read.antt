@@ -14,3 +14,8 @@ pub mod ScientificAffixes
 pub mod ScientificUnique
 pub mod FormattedExponents
 pub mod PatternLists
+pub mod CompactKeys
+pub mod CompactPatterns
+pub mod CompactTexts
+pub mod CompactOwn
+pub mod CompactOrder

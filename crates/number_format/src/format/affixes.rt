@@ -45,6 +45,17 @@ fn sign_kind(sign: Sign) -> PartKind
 }
 
 impl StyleTexts {
+    pub(crate) fn copied(&self) -> Self
+        ensures { result ≡ self.now }
+    {
+        StyleTexts {
+            symbols: self.symbols.copied(),
+            pattern: self.pattern,
+            percent: self.percent,
+            currency: self.currency.copied(),
+        }
+    }
+
     fn pattern_kind(&self, piece: Piece) -> PartKind
         ensures { result ≡ pattern_kind self.now piece }
     {

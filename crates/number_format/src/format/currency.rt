@@ -46,6 +46,20 @@ fn narrow_symbol(currency: Option<LocalCurrency>) -> Option<CurrencySymbol>
 }
 
 impl ShownCurrency {
+    pub(crate) fn copied(&self) -> Self
+        ensures { result ≡ self.now }
+    {
+        ShownCurrency {
+            symbol: self.symbol,
+            code: self.code,
+            shows_code: self.shows_code,
+            space_before: self.space_before,
+            space_after: self.space_after,
+            wide: self.wide,
+            narrow: self.narrow,
+        }
+    }
+
     pub(crate) fn text(&self) -> &str
         ensures value { result.now ≡ currency_text self.now }
         ensures short { length result.now ≤ 255 }

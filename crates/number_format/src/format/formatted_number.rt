@@ -4,7 +4,7 @@ ghost use Rattle.decimal_digits.specs.AppendsPrefix.{AppendsPrefix};
 ghost use Rattle.fixed_decimal.specs.Decimal.{Decimal, displayed_sign};
 ghost use Rattle.decimal_format.specs.{Formatted.formatted_absolute, declared.grouping.GroupingStrategy.TheVariants.Never};
 ghost use Rattle.locale_data.specs.Compact.{AreTexts};
-ghost use Rattle.number_format.specs.{FormattedNumbers.{digits_of, hides_zero_of, pattern_of, around_of, outer_of, exponent_text, number_text, number_text_if, number_pieces_if, separator_of, significand_text, around_text, inner_text, inner_text_if, inner_pieces, inner_pieces_if, formatted_number_pieces, formatted_number_text, ChoosesWhole, IsOuter, IsShownNumber}, NumberText.{compact_around, compact_style, outer_texts, exponent_of, exponent_pieces, significand_pieces, shown_number, AreParts, AreNumberPieces, WritingNeedsMemory}, PatternTexts.{around, pattern_around}, TextParts.{parts_text, pieces_text, Puts, PutsPrefix}};
+ghost use Rattle.number_format.specs.{FormattedNumbers.{digits_of, hides_zero_of, pattern_of, around_of, outer_of, exponent_text, number_text, number_text_if, number_pieces_if, separator_of, significand_text, around_text, inner_text, inner_text_if, inner_pieces, inner_pieces_if, formatted_number_pieces, formatted_number_text, ChoosesWhole, IsOuter, IsShownNumber}, NumberText.{compact_around, exponent_of, exponent_pieces, significand_pieces, shown_number, AreParts, AreNumberPieces, WritingNeedsMemory}, PatternTexts.{around, pattern_around}, TextParts.{parts_text, pieces_text, Puts, PutsPrefix}};
 
 use crate::format::affixes::NumberAffixes;
 use crate::format::compact::CompactChoice;
@@ -23,7 +23,7 @@ use decimal_format::{FormattedAbsolute, GroupingStrategy};
 use fixed_decimal::{
     Decimal, DecimalStore, RoundError, Sign, SignDisplay, Sink, SinkFault, Writeable,
 };
-use locale_data::{CompactForm, CompactPattern, UnitAffixes};
+use locale_data::{CompactForm, CompactPattern};
 use plural_rules::PluralCategory;
 use std::alloc::Global;
 use std::fmt;
@@ -109,33 +109,10 @@ impl<'f> FormattedNumber<'f> {
         }
     }
 
-    fn compact_outer(&self) -> OuterAround<'static>
-        ensures { IsOuter (outer_texts self.now.formatter.now.formats OuterTexts.None
-            (compact_style self.now.formatter.now.options.notation self.now.formatter.now.options.style)
-            self.now.formatter.now.options.style self.now.whole) result }
-    {
-        let formatter = self.formatter;
-        match (formatter.options.compact_style(), formatter.options.style) {
-            (Some(_), NumberStyle::Percent) => {
-                OuterAround::of_affixes(formatter.formats.percent_unit(self.whole))
-            }
-            (Some(_), NumberStyle::Permille) => OuterAround::of_affixes(UnitAffixes {
-                prefix: "",
-                suffix: "\u{2030}",
-            }),
-            _ => OuterAround::none(),
-        }
-    }
-
     pub(crate) fn outer_around(&self) -> OuterAround<'_>
         ensures { IsOuter (outer_of self.now) result }
     {
-        let formatter = self.formatter;
-        match &formatter.outer {
-            OuterTexts::Units(rows) => OuterAround::of_unit(*rows, self.whole),
-            OuterTexts::Names(names) => OuterAround::of_name(names, self.whole),
-            OuterTexts::None => self.compact_outer(),
-        }
+        self.formatter.outer_around(self.whole)
     }
 
     fn outer(&self) -> OuterAround<'_>

@@ -7,7 +7,7 @@ use crate::format::affixes::StyleTexts;
 use crate::format::compact::{CompactChoice, NO_CHOICE, compact_magnitude, is_one};
 use crate::format::exponent::{exponent_operand, exponent_shift};
 use crate::format::ids::{FormatterIds, NumberFormatError, currency_by, style_system};
-use crate::format::outer::OuterTexts;
+use crate::format::outer::{OuterAround, OuterTexts};
 use crate::format::style::{
     notation_of, percent_kind, percent_text, shown_digits, style_of, style_sizes, with_separators,
 };
@@ -16,7 +16,9 @@ use crate::notation::Notation;
 use crate::notation::scale::ShownNumber;
 use crate::options::{NumberNotation, NumberOptions, NumberStyle};
 use fixed_decimal::{Decimal, DecimalStore, RoundError};
-use locale_data::{NumberFormats, PluralRulesId, plural_category_at, rules_text_at, symbols_at};
+use locale_data::{
+    NumberFormats, PluralRulesId, UnitAffixes, plural_category_at, rules_text_at, symbols_at,
+};
 use plural_rules::{PluralCategory, PluralOperands};
 
 /// Formats numbers as `Intl.NumberFormat` of ECMA-402 does, with the data of CLDR 48, on decimals of any length.
@@ -39,7 +41,7 @@ impl NumberFormatter {
     ghost use Rattle.fixed_decimal.specs.DecimalText.{IsLong};
     ghost use Rattle.locale_data.specs.Plurals.{IsCategoryAt};
     ghost use Rattle.plural_rules.specs.Operands.{plain};
-    ghost use Rattle.number_format.specs.{FormattedNumbers.{ChoosesOuter, ChoosesPattern, ChoosesWhole, IsShownNumber}, Formatters.{LacksRows, IsFormatterAt, IsFormatterWith, IsFormatter, IsFormatterError, IsRangeFormatter, IsRangeFormatterAt}, NumberText.{has_categories, operands_with, shown_number, rounded_in, rounded_by, whole_number, RoundingNeedsMemory, NeedsMemory, WholeRoundingNeedsMemory, WritingNeedsMemory, FormattingNeedsMemory}, Scaled.{ScaledValue, scaled_value}};
+    ghost use Rattle.number_format.specs.{FormattedNumbers.{ChoosesOuter, ChoosesPattern, ChoosesWhole, IsOuter, IsShownNumber}, Formatters.{LacksRows, IsFormatterAt, IsFormatterWith, IsFormatter, IsFormatterError, IsRangeFormatter, IsRangeFormatterAt}, NumberText.{compact_style, has_categories, operands_with, outer_by, outer_texts, shown_number, rounded_in, rounded_by, whole_number, RoundingNeedsMemory, NeedsMemory, WholeRoundingNeedsMemory, WritingNeedsMemory, FormattingNeedsMemory}, Scaled.{ScaledValue, scaled_value}};
     ghost use Rattle.fixed_decimal.specs.Decimal.{Decimal};
 
     /// Makes the formatter of a locale and options. It does not allocate.
@@ -155,6 +157,22 @@ impl NumberFormatter {
         })
     }
 
+    /// Returns this formatter once more.
+    pub(crate) fn copied(&self) -> Self
+        ensures { result ≡ self.now }
+    {
+        NumberFormatter {
+            style: self.style.copied(),
+            separator: self.separator,
+            outer: self.outer,
+            formats: self.formats,
+            rules: self.rules,
+            options: self.options,
+            notation: self.notation,
+            digits: self.digits,
+        }
+    }
+
     #[inline(always)]
     fn rounded(&self, value: &mut Decimal) -> Result<ShownNumber, RoundError>
         ensures ok { IfOk result (λ s. rounded_in self.now.notation self.now.digits value.old
@@ -260,6 +278,33 @@ impl NumberFormatter {
             patterns,
             category,
             is_one: is_one(significand),
+        }
+    }
+
+    fn compact_outer(&self, category: PluralCategory) -> OuterAround<'static>
+        ensures { IsOuter (outer_texts self.now.formats OuterTexts.None
+            (compact_style self.now.options.notation self.now.options.style) self.now.options.style category) result }
+    {
+        match (self.options.compact_style(), self.options.style) {
+            (Some(_), NumberStyle::Percent) => {
+                OuterAround::of_affixes(self.formats.percent_unit(category))
+            }
+            (Some(_), NumberStyle::Permille) => OuterAround::of_affixes(UnitAffixes {
+                prefix: "",
+                suffix: "\u{2030}",
+            }),
+            _ => OuterAround::none(),
+        }
+    }
+
+    /// Returns what is written around the whole text of a number of a plural category.
+    pub(crate) fn outer_around(&self, category: PluralCategory) -> OuterAround<'_>
+        ensures { IsOuter (outer_by self.now category) result }
+    {
+        match &self.outer {
+            OuterTexts::Units(rows) => OuterAround::of_unit(*rows, category),
+            OuterTexts::Names(names) => OuterAround::of_name(names, category),
+            OuterTexts::None => self.compact_outer(category),
         }
     }
 

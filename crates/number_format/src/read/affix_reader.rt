@@ -1,5 +1,5 @@
 //! Reading of numbers between the texts of patterns.
-ghost use Rattle.std.specs.{Prelude.{◌≡◌, ◌≢◌, ℕ, List, ◌++◌, MatchOption, IfOk, IsSome, None, Ok}};
+ghost use Rattle.std.specs.{Prelude.{◌≡◌, ◌≢◌, ℕ, List, ◌++◌, MatchOption, IfOk, IfErr, IsSome, None, Ok, Err}};
 ghost use Rattle.decimal_format.specs.{Readable.IsReadable, Reading.IsRead};
 ghost use Rattle.locale_data.specs.Plurals.{IsCategoryAt, rules_text_at};
 ghost use Rattle.number_format.specs.{AffixedTexts.{AreNamed, Allows, shifted, IsWritten, IsWrittenBy, IsNumeral, IsBetween, IsSplit, IsOwn, IsReadShown, IsReadExactly, IsReadWith, IsReadTyped}, ScientificReading.IsSeparatorApart, AffixedExponents.{IsReadShownExponent, IsReadWithExponent, IsTypedWithExponent}};
@@ -105,7 +105,8 @@ fn split<'p, 't>(
     }
 }
 
-fn shifted<D: DigitStore>(
+/// Multiplies what was read by 10^shift.
+pub(crate) fn shifted<D: DigitStore>(
     read: Result<Signed<UnsignedOver<D>>, ParseError>,
     shift: i16,
 ) -> Result<Signed<UnsignedOver<D>>, ParseError>
@@ -145,7 +146,7 @@ impl<'a> AffixReader<'a> {
         }
     }
 
-    fn category<D: DigitStore>(&self, value: &Signed<UnsignedOver<D>>) -> PluralCategory
+    pub(crate) fn category<D: DigitStore>(&self, value: &Signed<UnsignedOver<D>>) -> PluralCategory
         ensures { IsCategoryAt self.now.rules (plain value.now.absolute) result }
     {
         match plural_category_at(self.rules, &PluralOperands::of_decimal(value)) {
@@ -197,6 +198,27 @@ impl<'a> AffixReader<'a> {
         }
     }
 
+    /// Reads a number between the texts of a pattern of any category, and returns the pattern too.
+    pub(crate) fn read_pattern<D: DigitStore>(
+        &self,
+        alloc: Global,
+        text: &[u8],
+    ) -> Result<(Signed<UnsignedOver<D>>, &NumberPattern), ParseError>
+        ensures ok { IfOk result (λ r. IsWrittenBy self.now text.now r.0 r.1.now
+            × IsRead D.L (IsNumeral self.now text.now) (IsWritten self.now text.now) (Ok r.0)) }
+        ensures err { IfErr result
+            (λ e. IsRead D.L (IsNumeral self.now text.now) (IsWritten self.now text.now) (Err e)) }
+    {
+        let Some((pattern, middle)) = split(&self.symbols, self.patterns.as_slice(), None, text)
+        else {
+            return Err(ParseError::Syntax);
+        };
+        match self.read_by(alloc, pattern, middle, text) {
+            Ok(value) => Ok((value, pattern)),
+            Err(error) => Err(error),
+        }
+    }
+
     fn read_shown<D: DigitStore>(
         &self,
         alloc: Global,
@@ -204,14 +226,20 @@ impl<'a> AffixReader<'a> {
     ) -> Result<Signed<UnsignedOver<D>>, ParseError>
         ensures { IsReadShown D.L self.now text.now result }
     {
-        let Some((pattern, middle)) = split(&self.symbols, self.patterns.as_slice(), None, text)
-        else {
-            return Err(ParseError::Syntax);
-        };
-        match self.read_by(alloc, pattern, middle, text) {
-            Ok(value) => self.own(pattern, value, text),
+        match self.read_pattern(alloc, text) {
+            Ok((value, pattern)) => self.own(pattern, value, text),
             Err(error) => Err(error),
         }
+    }
+
+    /// Multiplies what was read by 10^shift.
+    pub(crate) fn undo_scale<D: DigitStore>(
+        &self,
+        read: Result<Signed<UnsignedOver<D>>, ParseError>,
+    ) -> Result<Signed<UnsignedOver<D>>, ParseError>
+        ensures { result ≡ shifted self.now.shift read }
+    {
+        shifted(read, self.shift)
     }
 
     /// Reads a number between the texts of a pattern, in exactly one of the forms that a formatter writes.
@@ -231,7 +259,7 @@ impl<'a> AffixReader<'a> {
     ) -> Result<Signed<UnsignedOver<D>>, ParseError>
         ensures { IsReadExactly D.L self.now text.now result }
     {
-        shifted(self.read_shown(alloc, text), self.shift)
+        self.undo_scale(self.read_shown(alloc, text))
     }
 
     fn read_shown_exponent<D: DigitStore>(
@@ -268,7 +296,7 @@ impl<'a> AffixReader<'a> {
         requires { IsSeparatorApart self.now.symbols form.now.separator.now }
         ensures { IsReadWithExponent D.L self.now form.now text.now result }
     {
-        shifted(self.read_shown_exponent(form, alloc, text), self.shift)
+        self.undo_scale(self.read_shown_exponent(form, alloc, text))
     }
 
     fn read_typed<D: DigitStore>(
@@ -303,7 +331,7 @@ impl<'a> AffixReader<'a> {
     ) -> Result<Signed<UnsignedOver<D>>, ParseError>
         ensures { IsReadTyped D.L self.now alternatives.now text.now result }
     {
-        shifted(self.read_typed(alloc, alternatives, text), self.shift)
+        self.undo_scale(self.read_typed(alloc, alternatives, text))
     }
 
     /// Reads a number as people type it: as [`read_with_exponent`](Self::read_with_exponent) does, or else without an

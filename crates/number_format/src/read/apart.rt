@@ -1,7 +1,7 @@
 //! Whether the texts around numbers can be told apart.
 ghost use Rattle.std.specs.Prelude.{◌≡◌, ◌↔◌, ◌⊎◌, IsTrue, All, map};
 ghost use Rattle.decimal_format.specs.{Readable.IsReadable, Symbols.affixes};
-ghost use Rattle.number_format.specs.{AffixedTexts.{ArePrefixesApart, AreSuffixesApart, ArePairApart, AreToldApart, AreNamed}, NumberReading.{HasNoWords, pattern_at}};
+ghost use Rattle.number_format.specs.{AffixedTexts.{ArePrefixesApart, AreSuffixesApart, ArePairApart, AreToldApart, AreNamed}, NumberReading.pattern_at};
 
 use crate::format::formatter::NumberFormatter;
 use crate::read::pattern::{NumberPattern, PatternKey};
@@ -38,39 +38,59 @@ fn are_pair_apart(symbols: &DecimalSymbols<'_>, first: Affixes<'_>, second: Affi
         || are_suffixes_apart(symbols, first.suffix, second.suffix)
 }
 
-fn are_same(first: Affixes<'_>, second: Affixes<'_>) -> bool
+pub(crate) fn are_same(first: Affixes<'_>, second: Affixes<'_>) -> bool
     ensures { IsTrue result ↔ (affixes first.entry.prefix.now first.entry.suffix.now
         ≡ affixes second.entry.prefix.now second.entry.suffix.now) }
 {
     first.prefix == second.prefix && first.suffix == second.suffix
 }
 
-fn are_told_apart(
+pub(crate) fn are_same_powers(first: i32, second: i32) -> bool
+    ensures { IsTrue result ↔ (first ≡ second) }
+{
+    first == second
+}
+
+/// The sign of a pattern and its power of ten.
+pub(crate) type Meaning = (Sign, i32);
+
+pub(crate) fn are_told_apart(
     symbols: &DecimalSymbols<'_>,
     first: Affixes<'_>,
     second: Affixes<'_>,
-    first_sign: Sign,
-    second_sign: Sign,
+    first_meaning: Meaning,
+    second_meaning: Meaning,
 ) -> bool
     requires { IsReadable symbols.now }
     ensures { let a = affixes first.entry.prefix.now first.entry.suffix.now in
         let b = affixes second.entry.prefix.now second.entry.suffix.now in
-        IsTrue result ↔ (((a ≡ b) × (first_sign ≡ second_sign)) ⊎ ArePairApart symbols.now a b) }
+        IsTrue result ↔ (((a ≡ b) × (first_meaning.0 ≡ second_meaning.0) × (first_meaning.1 ≡ second_meaning.1))
+        ⊎ ArePairApart symbols.now a b) }
 {
-    if first_sign == second_sign && are_same(first, second) {
+    if first_meaning.0 == second_meaning.0
+        && are_same_powers(first_meaning.1, second_meaning.1)
+        && are_same(first, second)
+    {
         return true;
     }
     are_pair_apart(symbols, first, second)
 }
 
 impl NumberPattern {
+    fn meaning(&self) -> Meaning
+        ensures { result ≡ (self.now.sign, self.now.exponent) }
+    {
+        (self.sign, self.exponent)
+    }
+
     fn is_told_from(&self, symbols: &DecimalSymbols<'_>, others: &[NumberPattern]) -> bool
         requires { IsReadable symbols.now }
         ensures { IsTrue result ↔ All (AreToldApart symbols.now self.now) others.now }
     {
         let texts = self.affixes.texts();
         for other in others {
-            if !are_told_apart(symbols, texts, other.affixes.texts(), self.sign, other.sign) {
+            let others = other.affixes.texts();
+            if !are_told_apart(symbols, texts, others, self.meaning(), other.meaning()) {
                 return false;
             }
         }
@@ -93,8 +113,7 @@ pub(crate) fn are_named(symbols: &DecimalSymbols<'_>, patterns: &[NumberPattern]
 
 impl NumberFormatter {
     fn is_key_apart(&self, key: PatternKey, keys: &[PatternKey]) -> bool
-        requires words { HasNoWords self.now }
-        requires readable { IsReadable self.now.style.symbols }
+        requires { IsReadable self.now.style.symbols }
         ensures { IsTrue result ↔ All (λ k. AreToldApart self.now.style.symbols (pattern_at self.now key)
             (pattern_at self.now k)) keys.now }
     {
@@ -102,7 +121,13 @@ impl NumberFormatter {
         let texts = self.pattern_texts(key);
         for other in keys {
             let others = self.pattern_texts(*other);
-            if !are_told_apart(symbols, texts.texts(), others.texts(), key.1, other.1) {
+            if !are_told_apart(
+                symbols,
+                texts.texts(),
+                others.texts(),
+                (key.1, 0),
+                (other.1, 0),
+            ) {
                 return false;
             }
         }
@@ -111,8 +136,7 @@ impl NumberFormatter {
 
     /// Returns whether each two patterns are told apart. It does not allocate, and is slow.
     pub(crate) fn are_keys_apart(&self, keys: &[PatternKey]) -> bool
-        requires words { HasNoWords self.now }
-        requires readable { IsReadable self.now.style.symbols }
+        requires { IsReadable self.now.style.symbols }
         ensures { IsTrue result ↔ AreNamed self.now.style.symbols (map (pattern_at self.now) keys.now) }
     {
         for key in keys {

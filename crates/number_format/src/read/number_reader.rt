@@ -1,7 +1,7 @@
 //! Readers of what formatters write.
-ghost use Rattle.std.specs.Prelude.{◌≡◌, ◌↔◌, ◌≤◌, IsTrue, ◌∷◌, [], ◌++◌, ◌-ℤ◌, pos, length, take, map, flat_map, IfOk, IfErr, OnOk};
+ghost use Rattle.std.specs.Prelude.{◌≡◌, ◌↔◌, ◌≤◌, ◌⊎◌, IsTrue, Some, None, ◌∷◌, [], ◌++◌, ◌-ℤ◌, pos, length, take, map, flat_map, IfOk, IfErr, OnOk};
 ghost use Rattle.decimal_format.specs.Readable.{IsReadable};
-ghost use Rattle.number_format.specs.{AffixedTexts.AreNamed, NumberReading.{KeepsNotation, CanReadExponents, CanReadNotation, HasPlainDigits, CanRead, CanUndo, CannotRead, percent_name, names_by, form, form_of, form_of_pattern, forms_of_name, patterns_of, number_reader_of, typed_forms, IsReadStrictly, IsTypedBy, IsReadLeniently, IsReadInMode}, Scaled.HasNoIncrement, ScientificReading.exponent_form};
+ghost use Rattle.number_format.specs.{AffixedTexts.AreNamed, NumberReading.{KeepsNotation, CanReadExponents, CanReadWords, CanReadAlone, CanReadNotation, HasPlainDigits, AreOwnWordsNamed, words_of, word_formatter, CanRead, CanUndo, CannotRead, percent_name, names_by, form, form_of, form_of_pattern, forms_of_name, patterns_of, number_reader_of, typed_forms, IsReadBy, IsReadStrictly, IsTypedBy, IsReadLeniently, IsReadInMode}, Scaled.HasNoIncrement, ScientificReading.exponent_form};
 
 use crate::digits::options::DigitOptions;
 use crate::digits::precision::Precision;
@@ -11,12 +11,14 @@ use crate::format::outer::OuterTexts;
 use crate::options::{DecimalSeparatorDisplay, NumberNotation, NumberStyle};
 use crate::read::affix_reader::AffixReader;
 use crate::read::apart::are_named;
+use crate::read::compact::{CompactReader, has_compact_exponents};
 use crate::read::owned_affixes::OwnedAffixes;
 use crate::read::pattern::NumberPattern;
 use crate::read::scientific::ExponentForm;
 use decimal_format::Affixes;
 use decimal_format::internal::Alternative;
 use fixed_decimal::{DigitStore, ParseError, Sign, Signed, UnsignedOver};
+use locale_data::CompactStyle;
 use plural_rules::PluralCategory;
 use std::alloc::{AllocError, Global};
 use std::marker::Model;
@@ -27,10 +29,12 @@ use std::str;
 pub enum NumberReaderError {
     /// The place of the number or of its exponent is not certain:
     ///
-    /// - The notation is compact, or a decimal separator without fraction digits or without integer digits is written.
-    /// - The notation is scientific or engineering, and a unit or the name of a currency is written; or the sign of the
-    ///   exponent is never written; or the text before the exponent begins with a digit or a separator, or one of these
-    ///   with it; or numbers are rounded to multiples of an increment, or integer digits are cut off.
+    /// - A decimal separator without fraction digits or without integer digits is written.
+    /// - The notation is not standard, and a unit or the name of a currency is written, or numbers are rounded to
+    ///   multiples of an increment, or integer digits are cut off.
+    /// - The notation is scientific or engineering, and the sign of the exponent is never written; or the text before
+    ///   the exponent begins with a digit or a separator, or one of these with it.
+    /// - The notation is compact, and a word is written without a number: in French 1000 is `mille`.
     Notation,
     /// The unit has a text without a number for numbers of a plural category: in Arabic `يومان` is two days.
     NoNumber(PluralCategory),
@@ -38,8 +42,8 @@ pub enum NumberReaderError {
     Scale,
     /// The symbols are not readable: of two digits, separators or prefixes of signs one begins with the other.
     Symbols,
-    /// Neither the prefixes nor the suffixes of two texts can be told apart: of two signs, or of two categories of a
-    /// unit or a name.
+    /// Neither the prefixes nor the suffixes of two texts can be told apart: of two signs, of two categories of a unit
+    /// or a name, or of two powers of ten.
     Affixes,
     /// Out of memory.
     Memory,
@@ -191,12 +195,43 @@ fn is_standard(notation: NumberNotation) -> bool
     matches!(notation, NumberNotation::Standard)
 }
 
+fn can_read_words_of(formatter: &NumberFormatter, style: CompactStyle) -> bool
+    requires { formatter.now.outer ≡ OuterTexts.None }
+    ensures { IsTrue result ↔ CanReadWords formatter.now (Some style) }
+{
+    if !keeps_notation(&formatter.digits) {
+        return false;
+    }
+    if !has_compact_exponents(&formatter.notation) {
+        return false;
+    }
+    formatter.has_word_numbers(style)
+}
+
+fn can_read_words(formatter: &NumberFormatter) -> bool
+    requires { formatter.now.outer ≡ OuterTexts.None }
+    ensures { IsTrue result ↔ CanReadWords formatter.now (words_of formatter.now) }
+{
+    match formatter.options.compact_style() {
+        Some(style) => can_read_words_of(formatter, style),
+        None => false,
+    }
+}
+
+fn can_read_other(formatter: &NumberFormatter) -> bool
+    requires { formatter.now.outer ≡ OuterTexts.None }
+    ensures { IsTrue result
+        ↔ (CanReadExponents formatter.now (exponent_form formatter.now formatter.now.options.notation)
+        ⊎ CanReadWords formatter.now (words_of formatter.now)) }
+{
+    can_read_exponents(formatter) || can_read_words(formatter)
+}
+
 fn can_read_alone(formatter: &NumberFormatter) -> bool
-    ensures { IsTrue result ↔ ((formatter.now.outer ≡ OuterTexts.None) × CanReadExponents formatter.now
-        (exponent_form formatter.now formatter.now.options.notation)) }
+    ensures { IsTrue result ↔ CanReadAlone formatter.now }
 {
     match formatter.outer {
-        OuterTexts::None => can_read_exponents(formatter),
+        OuterTexts::None => can_read_other(formatter),
         OuterTexts::Units(_) | OuterTexts::Names(_) => false,
     }
 }
@@ -246,6 +281,8 @@ pub struct NumberReader {
     reader: AffixReader<'static>,
     /// How exponents are written, if the notation has them.
     exponent: Option<ExponentForm<'static>>,
+    /// What reads words, if the notation has them.
+    words: Option<CompactReader>,
     forms: Vec<Form>,
 }
 
@@ -255,9 +292,11 @@ impl Drop for NumberReader {
         let NumberReader {
             reader,
             exponent: _,
+            words,
             forms,
         } = self;
         drop(reader);
+        drop(words);
         drop(forms);
     }
 }
@@ -268,23 +307,61 @@ impl Model for NumberReader {
 
     ghost Value = { NumberReader };
 
-    ghost view = { λ s. record { texts = s.reader; exponent = s.exponent; forms = s.forms.items } };
+    ghost view = { λ s. record {
+      texts = s.reader;
+      exponent = s.exponent;
+      words = s.words;
+      forms = s.forms.items;
+    } };
 
     ghost invariant = { λ s. (length s.forms.items ≤ 44)
         × IfSome s.exponent (λ form. IsSeparatorApart s.reader.symbols form.separator.now) };
 }
 
 impl NumberFormatter {
+    fn are_own_words_apart(&self) -> bool
+        requires undo { CanUndo self.now }
+        requires readable { IsReadable self.now.style.symbols }
+        ensures { IsTrue result ↔ AreOwnWordsNamed self.now (words_of self.now) }
+    {
+        match self.options.compact_style() {
+            Some(style) => self.are_words_apart(style),
+            None => true,
+        }
+    }
+
+    fn words(&self, alloc: Global, shift: i16) -> Result<Option<CompactReader>, NumberReaderError>
+        requires undo { CanUndo self.now }
+        requires readable { IsReadable self.now.style.symbols }
+        requires shift { shift ≡ pos 0 -ℤ self.now.options.scale }
+        ensures ok { IfOk result (λ words. (words ≡ word_formatter self.now)
+            × AreOwnWordsNamed self.now (words_of self.now)) }
+        ensures err { IfErr result (λ e. CannotRead e self.now) }
+    {
+        let Some(style) = self.options.compact_style() else {
+            return Ok(None);
+        };
+        let Ok(patterns) = self.word_patterns(alloc, style) else {
+            return Err(self.patterns_error());
+        };
+        if !are_named(&self.style.symbols, patterns.as_slice()) {
+            return Err(NumberReaderError::Affixes);
+        }
+        Ok(Some(CompactReader::new(self.copied(), style, patterns, shift)))
+    }
+
     fn patterns_error(&self) -> NumberReaderError
         requires undo { CanUndo self.now }
         requires readable { IsReadable self.now.style.symbols }
         ensures { CannotRead result self.now }
     {
-        if self.are_keys_apart(self.pattern_keys()) {
-            NumberReaderError::Memory
-        } else {
-            NumberReaderError::Affixes
+        if !self.are_keys_apart(self.pattern_keys()) {
+            return NumberReaderError::Affixes;
         }
+        if !self.are_own_words_apart() {
+            return NumberReaderError::Affixes;
+        }
+        NumberReaderError::Memory
     }
 
     fn named_patterns(&self, alloc: Global) -> Result<Vec<NumberPattern>, NumberReaderError>
@@ -318,6 +395,7 @@ impl NumberFormatter {
             return Err(NumberReaderError::Symbols);
         }
         let patterns = self.named_patterns(alloc)?;
+        let words = self.words(alloc, shift)?;
         let Ok(forms) = forms(self, patterns.as_slice(), alloc) else {
             return Err(NumberReaderError::Memory);
         };
@@ -326,6 +404,7 @@ impl NumberFormatter {
         Ok(NumberReader {
             reader,
             exponent,
+            words,
             forms,
         })
     }
@@ -343,6 +422,19 @@ impl NumberReader {
         alternatives
     }
 
+    fn read_words<D: DigitStore>(
+        &self,
+        alloc: Global,
+        text: &[u8],
+    ) -> Result<Signed<UnsignedOver<D>>, ParseError>
+        ensures { IsReadBy D.L self.now.texts None self.now.words text.now result }
+    {
+        match &self.words {
+            Some(words) => words.read(alloc, text),
+            None => self.reader.read(alloc, text),
+        }
+    }
+
     /// Reads a number in exactly one of the forms that the formatter writes, and undoes its scale: by style `Percent`
     /// and scale 2 `12.5%` is 0.125.
     ///
@@ -351,6 +443,9 @@ impl NumberReader {
     ///
     /// In scientific and engineering notation the text has the exponent that the notation has for the number, with its
     /// sign and its least number of digits: `1.2E3` is 1200, and `12E3`, `1E03` and `1200` are `Syntax`.
+    ///
+    /// In compact notation it has the words of the number's magnitude and plural category: in `en`, `1.25M` is 1250000,
+    /// and `1250K`, `0.5M` and `1200` are `Syntax`. The value is the significand times the power of ten.
     ///
     /// # Errors
     ///
@@ -367,7 +462,21 @@ impl NumberReader {
     {
         match &self.exponent {
             Some(form) => self.reader.read_with_exponent(form, alloc, text),
-            None => self.reader.read(alloc, text),
+            None => self.read_words(alloc, text),
+        }
+    }
+
+    fn read_typed_words<D: DigitStore>(
+        &self,
+        alloc: Global,
+        alternatives: &[Alternative<'_>],
+        text: &str,
+    ) -> Result<Signed<UnsignedOver<D>>, ParseError>
+        ensures { IsTypedBy D.L self.now.texts None self.now.words alternatives.now text.now result }
+    {
+        match &self.words {
+            Some(words) => words.read_lenient(&self.reader, alloc, alternatives, text),
+            None => self.reader.read_lenient(alloc, alternatives, text),
         }
     }
 
@@ -377,24 +486,25 @@ impl NumberReader {
         alternatives: &[Alternative<'_>],
         text: &str,
     ) -> Result<Signed<UnsignedOver<D>>, ParseError>
-        ensures { IsTypedBy D.L self.now.texts self.now.exponent alternatives.now text.now result }
+        ensures { IsTypedBy D.L self.now.texts self.now.exponent self.now.words alternatives.now text.now result }
     {
         match &self.exponent {
             Some(form) => {
                 self.reader
                     .read_lenient_with_exponent(form, alloc, alternatives, text)
             }
-            None => self.reader.read_lenient(alloc, alternatives, text),
+            None => self.read_typed_words(alloc, alternatives, text),
         }
     }
 
     /// Reads a number as people type it, and undoes the scale.
     ///
-    /// A text that [`read`](Self::read) accepts has the same value. Else the number has no exponent, and is as
-    /// [`DecimalSymbols::read_lenient`](decimal_format::DecimalSymbols::read_lenient) accepts it. Around it may be what
-    /// the formatter writes, of any plural category, nothing, or parentheses for a minus sign; or, on either side and
-    /// with a space or without, the symbol, the narrow symbol or the code of the currency, or the percent sign, also
-    /// after a sign. Two signs, two symbols and another currency are `Syntax`.
+    /// A text that [`read`](Self::read) accepts has the same value. In compact notation, else the words may be those of
+    /// any magnitude and category: `1250K` is 1250000, and `0.5M` is 0500000. Else the number has no exponent, and is
+    /// as [`DecimalSymbols::read_lenient`](decimal_format::DecimalSymbols::read_lenient) accepts it. Around it may be
+    /// what the formatter writes, of any plural category, nothing, or parentheses for a minus sign; or, on either side
+    /// and with a space or without, the symbol, the narrow symbol or the code of the currency, or the percent sign,
+    /// also after a sign. Two signs, two symbols and another currency are `Syntax`.
     ///
     /// # Errors
     ///

@@ -1,7 +1,9 @@
 //! The texts around a number that a formatter writes, and what they say of the number.
 ghost use Rattle.std.specs.Prelude.{◌≡◌, ◌↔◌, ◌≤◌, ◌+◌, ◌*◌, ◌++◌, false, length, IsTrue, IfOk, MatchOption};
-ghost use Rattle.number_format.specs.{AffixedTexts.Allows, FormattedNumbers.IsOuter, NumberReading.{HasNoWords, HasNumbers, outer_at, pattern_at, keys_by, patterns_of}, NumberText.outer_by, TextParts.parts_text};
+ghost use Rattle.decimal_format.specs.Symbols.{affixes};
+ghost use Rattle.number_format.specs.{AffixedTexts.Allows, FormattedNumbers.IsOuter, NumberReading.{HasNumbers, outer_at, pattern_at, keys_by, patterns_of}, NumberText.outer_by, TextParts.parts_text};
 
+use crate::format::affixes::NumberAffixes;
 use crate::format::formatter::NumberFormatter;
 use crate::format::outer::{OuterAround, OuterTexts};
 use crate::format::short_affixes::{ShortAffixes, joined};
@@ -21,6 +23,8 @@ pub(crate) struct NumberPattern {
     pub(crate) sign: Sign,
     /// The plural category of the numbers that they are around; none if they are around every number.
     pub(crate) category: Option<PluralCategory>,
+    /// The power of ten that they stand for: 3 of `K`.
+    pub(crate) exponent: i32,
 }
 
 /// The plural category and the sign of the numbers that a pattern is for.
@@ -84,38 +88,39 @@ fn pair_text(first: &str, second: &str) -> ArrayString<2550>
     text
 }
 
-impl NumberFormatter {
-    fn outer_of_category(&self, category: PluralCategory) -> OuterAround<'_>
-        requires { HasNoWords self.now }
-        ensures { IsOuter (outer_by self.now category) result }
-    {
-        match &self.outer {
-            OuterTexts::Units(rows) => OuterAround::of_unit(*rows, category),
-            OuterTexts::Names(names) => OuterAround::of_name(names, category),
-            OuterTexts::None => OuterAround::none(),
-        }
+/// Joins what is around a whole text and what is around the number in it.
+pub(crate) fn joined_texts(outer: &OuterAround<'_>, inner: &NumberAffixes<'_>) -> ShortAffixes<2550>
+    ensures { result ≡ affixes (parts_text outer.now.before ++ parts_text inner.now.prefix)
+        (parts_text inner.now.suffix ++ parts_text outer.now.after) }
+{
+    let before: ArrayString<1020> = short_text(&outer.before);
+    let prefix: ArrayString<1530> = short_text(&inner.prefix);
+    let suffix: ArrayString<1275> = short_text(&inner.suffix);
+    let after: ArrayString<1020> = short_text(&outer.after);
+    ShortAffixes {
+        prefix: pair_text(before.as_str(), prefix.as_str()),
+        suffix: pair_text(suffix.as_str(), after.as_str()),
     }
+}
 
+impl NumberFormatter {
     fn outer_at(&self, category: Option<PluralCategory>) -> OuterAround<'_>
-        requires { HasNoWords self.now }
         ensures { IsOuter (outer_at self.now category) result }
     {
         match category {
-            Some(category) => self.outer_of_category(category),
+            Some(category) => self.outer_around(category),
             None => OuterAround::none(),
         }
     }
 
     fn has_number(&self, category: PluralCategory) -> bool
-        requires { HasNoWords self.now }
         ensures { result ≡ (outer_by self.now category).has_number }
     {
-        self.outer_of_category(category).has_number
+        self.outer_around(category).has_number
     }
 
     /// Returns a category whose text has no number, as `yesterday` has none.
     pub(crate) fn category_without_number(&self) -> Option<PluralCategory>
-        requires { HasNoWords self.now }
         ensures { MatchOption result (HasNumbers self.now) (λ c. (outer_by self.now c).has_number ≡ false) }
     {
         if !self.has_number(Zero) {
@@ -141,23 +146,12 @@ impl NumberFormatter {
 
     /// Returns the texts around a number of a pattern.
     pub(crate) fn pattern_texts(&self, key: PatternKey) -> ShortAffixes<2550>
-        requires { HasNoWords self.now }
         ensures { result ≡ (pattern_at self.now key).affixes }
     {
-        let outer = self.outer_at(key.0);
-        let inner = self.style.affixes(key.1, None);
-        let before: ArrayString<1020> = short_text(&outer.before);
-        let prefix: ArrayString<1530> = short_text(&inner.prefix);
-        let suffix: ArrayString<1275> = short_text(&inner.suffix);
-        let after: ArrayString<1020> = short_text(&outer.after);
-        ShortAffixes {
-            prefix: pair_text(before.as_str(), prefix.as_str()),
-            suffix: pair_text(suffix.as_str(), after.as_str()),
-        }
+        joined_texts(&self.outer_at(key.0), &self.style.affixes(key.1, None))
     }
 
     fn pattern(&self, alloc: Global, key: PatternKey) -> Result<NumberPattern, AllocError>
-        requires { HasNoWords self.now }
         ensures { IfOk result (λ p. p ≡ pattern_at self.now key) }
     {
         let affixes = OwnedAffixes::copied(alloc, self.pattern_texts(key).texts())?;
@@ -165,6 +159,7 @@ impl NumberFormatter {
             affixes,
             sign: key.1,
             category: key.0,
+            exponent: 0,
         })
     }
 
@@ -180,7 +175,6 @@ impl NumberFormatter {
 
     /// Returns the texts around numbers.
     pub(crate) fn number_patterns(&self, alloc: Global) -> Result<Vec<NumberPattern>, AllocError>
-        requires { HasNoWords self.now }
         ensures { IfOk result (λ patterns. patterns.items ≡ patterns_of self.now) }
     {
         let keys = self.pattern_keys();

@@ -443,3 +443,20 @@ keeps_exponent notation o v plain ordered few all s is =
           subst (λ r. Law notation o v.sign n e r) r_is
           (subst (λ e. Law notation o v.sign n e t.number) same (law.once, law.carry)),
     )
+
+-- a result of zero has the exponent of the number before it is raised, which is 0 or below
+pub zero_exponent : (notation : Notation) (o : DigitOptions) (v : Decimal) → HasNoIncrement o.precision
+    → IsOrdered notation → v.absolute.number < number_limit → o.integer.max ≡ 32768 → (s : ScaledValue)
+    → scaled notation o v ≡ Some s → s.significand.absolute.number ≡ 0
+    → s.exponent ≡ base_exponent notation v.absolute.number
+zero_exponent notation o v plain ordered few all s is none =
+    let n = raised notation v.absolute.number in
+    let made = keeps_value_of notation o v all s is in
+    let t = made.0 in
+    let below =
+    raised_below v.absolute.number (unsigned_abs (base_exponent notation v.absolute.number)) few
+    (omega (arith, ints, clamps, exponent_least notation (first v.absolute.number))) in
+    let law = settles notation o v.sign n plain ordered below t made.1 (first n) refl in
+    let zero : t.number ≡ 0 = grind (arith, none, made.2) in
+    let low = law.own ∙ exponent_low notation (first t.number) (omega (arith, ints, ap first zero, first_zero)) in
+    omega (arith, ints, made.3, low)

@@ -1,11 +1,11 @@
 -- The ends of ranges: a number has one end, and its text alone is that of the end.
 use Rattle.std.proofs.{Common.{◌≡◌, ℕ, inl, inr, true, false, List, [], ◌++◌, Option, Some, None, refl, sym, ◌∙◌, ap, subst, append-nil}, lemmas.Option.same_Some}
-use Rattle.std.specs.{Prelude.{Bool, ◌&&◌, ◌||◌, if◌then◌else◌, IsSomeAnd, ◌⊎◌}, Cmp.{int_eq_equiv, Lexicographic.nat_list_eq_equiv}, Ordering.int_eq, Str.bytes_eq}
+use Rattle.std.specs.{Prelude.{Bool, ◌&&◌, ◌||◌, if◌then◌else◌, IsSomeAnd, ◌⊎◌}, Cmp.{int_eq_equiv, Lexicographic.nat_list_eq_equiv}}
 use Rattle.fixed_decimal.specs.Decimal.{Decimal, signed_number}
 use Rattle.plural_rules.specs.{Operands.{Operands, plain}, Rules.category_of, RulesGrammar.IsCategoryByText, declared.rules.PluralCategory.PluralCategory}
 use Rattle.plural_rules.proofs.lemmas.parse.ParserComplete.{grammar-unique}
 use Rattle.locale_data.specs.{Plurals.{rules_text_at, IsCategoryAt}, declared.plurals.PluralRulesId.PluralRulesId}
-use Rattle.number_format.specs.{declared.{format.{formatted_number.FormattedNumber.FormattedNumber, formatter.NumberFormatter.NumberFormatter}, range.{common.BareTexts.BareTexts, form.RangeForm.{RangeForm, TheVariants.{Approximate, Common, Apart}}, range_texts.RangeTexts.RangeTexts}}, FormattedRanges.{end_of, IsFormattedEnd}, NumberText.{HasNumberText, IsNumberText, outer_by}, PatternTexts.{around, within}, RangeText.{IsRange, IsRangeEnd, RangeEnd, ShownRange, apart_pieces, are_same_texts, bare_texts, both_or_neither, end_around, end_number, form_by, pieces_by, range_by, range_category, range_form, range_pieces, separator_pieces, shown_end, text_of_pieces, written_exponent}, Scaled.ScaledValue, TextParts.{Piece, pieces_text}}
+use Rattle.number_format.specs.{declared.{format.{formatted_number.FormattedNumber.FormattedNumber, formatter.NumberFormatter.NumberFormatter}, range.{common.BareTexts.BareTexts, form.RangeForm.{RangeForm, TheVariants.{Approximate, Common, Apart}}, range_texts.RangeTexts.RangeTexts}}, FormattedRanges.{end_of, IsFormattedEnd}, NumberText.{HasNumberText, IsNumberText, outer_by}, PatternTexts.{around, within}, RangeText.{IsRange, IsRangeEnd, RangeEnd, ShownRange, apart_pieces, are_same_texts, bare_texts, both_or_neither, end_around, end_number, pieces_by, range_by, range_category, range_form, range_pieces, separator_pieces, shown_end, text_of_pieces, written_exponent}, Scaled.ScaledValue, TextParts.{pieces_text}}
 
 -- rules have one category
 pub category_unique : (id : PluralRulesId) (n : Operands) (a b : PluralCategory) → IsCategoryAt id n a

@@ -59,7 +59,7 @@ numeral_text_is s g w digits = record {
   ends = number_ends s (separated_by s g (length w.whole)) w (never_after_last s g (length w.whole)) digits;
 }
 
-value_text_is : (s : Symbols) (g : GroupingStrategy) (v : Decimal) → IsValue v.absolute
+pub value_text_is : (s : Symbols) (g : GroupingStrategy) (v : Decimal) → IsValue v.absolute
     → IsNumberText s (absolute_text s g v.absolute)
 value_text_is s g v valid =
     let d = digits_of_value v valid in
@@ -77,7 +77,7 @@ module _ (s : Symbols) where
       h (p.prefix ++ a) (q.prefix ++ b) (ends-append s p.prefix a x.ends) (ends-append s q.prefix b y.ends)
       (append_assoc p.prefix a p.suffix ∙ e ∙ sym (append_assoc q.prefix b q.suffix))
 
-  same_middle : (p q : NumberPattern) (a b : List ℕ) → AreToldApart s p q → IsNumberText s a → IsNumberText s b
+  pub same_middle : (p q : NumberPattern) (a b : List ℕ) → AreToldApart s p q → IsNumberText s a → IsNumberText s b
       → between p a ≡ between q b → AreSame p q × (a ≡ b)
   same_middle p q a b (inr apart) x y e = absurd (clash p.affixes q.affixes a b apart x y e)
   same_middle p q a b (inl same) x y e =
@@ -88,20 +88,25 @@ module _ (s : Symbols) where
             (append_cancel_left p.affixes.prefix (a ++ p.affixes.suffix) (b ++ p.affixes.suffix) here),
       )
 
--- two values have different texts
+-- two values have different texts, by patterns that are told apart and show their signs
+pub two_texts : (s : Symbols) → IsReadable s → (p q : NumberPattern) → AreToldApart s p q → (v w : Decimal)
+    → IsValue v.absolute → IsValue w.absolute → p.sign ≡ v.sign → q.sign ≡ w.sign → (g h : GroupingStrategy)
+    → between p (absolute_text s g v.absolute) ≡ between q (absolute_text s h w.absolute) → AreSame p q × (v ≡ w)
+two_texts s readable p q apart v w valid valid' own other g h e =
+    let same = same_middle s p q (absolute_text s g v.absolute) (absolute_text s h w.absolute) apart
+    (value_text_is s g v valid) (value_text_is s h w valid') e in
+    let plain = texts_are_unique s g h (record v { sign = None }) (record w { sign = None }) readable valid valid'
+    (ap (λ t. t ++ []) same.1) in
+    let absolute = ap (λ (d : Decimal). d.absolute) plain in
+    let sign = sym own ∙ same.0.1 ∙ other in
+    (same.0, λ i. record { sign = sign i; absolute = absolute i })
+
 pub named_texts_are_unique : (r : Reader) → AreNamed r.symbols r.patterns → IsReadable r.symbols
     → (text : List ℕ) (v w : Decimal) → IsValue v.absolute → IsValue w.absolute → IsWritten r text v
     → IsWritten r text w → v ≡ w
 named_texts_are_unique r named readable text v w valid valid' (p, x) (q, y) =
-    let s = r.symbols in
-    let same = same_middle s p q (absolute_text s x.strategy v.absolute) (absolute_text s y.strategy w.absolute)
-    (named.pair p q x.listed y.listed) (value_text_is s x.strategy v valid) (value_text_is s y.strategy w valid')
-    (sym x.is ∙ y.is) in
-    let plain = texts_are_unique s x.strategy y.strategy (record v { sign = None }) (record w { sign = None }) readable
-    valid valid' (ap (λ t. t ++ []) same.1) in
-    let absolute = ap (λ (d : Decimal). d.absolute) plain in
-    let sign = sym x.sign ∙ same.0.1 ∙ y.sign in
-    λ i. record { sign = sign i; absolute = absolute i }
+    (two_texts r.symbols readable p q (named.pair p q x.listed y.listed) v w valid valid' x.sign y.sign x.strategy
+    y.strategy (sym x.is ∙ y.is)).1
 
 -- ---- What is read between the texts of a pattern.
 

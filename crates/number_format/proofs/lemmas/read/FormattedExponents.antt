@@ -7,7 +7,7 @@ use Rattle.fixed_decimal.proofs.Calling.{below_limit}
 use Rattle.plural_rules.specs.declared.rules.PluralCategory.{PluralCategory}
 use Rattle.decimal_format.specs.Scanning.{value_of}
 use Rattle.number_format.specs.ScientificReading as scientific
-use Rattle.number_format.specs.{declared.{digits.options.DigitOptions.DigitOptions, format.{formatter.NumberFormatter.NumberFormatter, ids.FormatterIds.FormatterIds, outer.OuterTexts.OuterTexts}, notation.Notation.{Notation, TheVariants.{Scientific, Engineering}}, options.{DecimalSeparatorDisplay.DecimalSeparatorDisplay, NumberOptions.NumberOptions, NumberNotation.NumberNotation, NumberStyle.NumberStyle}, read.{pattern.NumberPattern.NumberPattern, scientific.ExponentForm.ExponentForm}}, AffixedExponents.IsReadWithExponent, AffixedTexts.{between, shifted, IsSplit}, Formatters.{IsFormatterAt, IsNotationBy}, NumberReading.{KeepsNotation, CanReadExponents, CanReadNotation, HasNumbers, CanRead, IsShownAs, keys_by, pattern_at, patterns_of, reader_of}, NumberText.{IsNumberText, compact_style, exponent_of, needs_no_integer, rounded_in, shown_sign}, Scaled.{ScaledValue, scaled}, ScientificReading.{CanReadExponent, ScientificNumeral, IsScientificNumeral, exponent_form, HasExponentOf, notation_of, scientific_text}}
+use Rattle.number_format.specs.{declared.{digits.options.DigitOptions.DigitOptions, format.{formatter.NumberFormatter.NumberFormatter, ids.FormatterIds.FormatterIds, outer.OuterTexts.OuterTexts}, notation.Notation.{Notation}, options.{DecimalSeparatorDisplay.DecimalSeparatorDisplay, NumberOptions.NumberOptions, NumberNotation.NumberNotation, NumberStyle.NumberStyle}, read.{pattern.NumberPattern.NumberPattern, scientific.ExponentForm.ExponentForm}}, AffixedExponents.IsReadWithExponent, AffixedTexts.{between, shifted, IsSplit}, Formatters.{IsFormatterAt, IsNotationBy}, NumberReading.{KeepsNotation, CanReadExponents, CanReadWords, CanReadNotation, HasNumbers, CanRead, IsShownAs, keys_by, pattern_at, patterns_of, reader_of}, NumberText.{IsNumberText, compact_style, exponent_of, needs_no_integer, rounded_in, shown_sign}, Scaled.{ScaledValue, scaled}, ScientificReading.{CanReadExponent, ScientificNumeral, IsScientificNumeral, exponent_form, HasExponentOf, notation_of, scientific_text}}
 use Rattle.number_format.proofs.lemmas.{format.PieceTexts.{shows_integer, text-of_digits_and_exponent}, notation.Exponents.exponent_shown, read.{AffixedNumbers.only_middle, FormatterTexts.{none_key, text_between}, PatternLists.in_map, ScientificAffixes.affixed_reads, ScientificBodies.{number_written, scientific_begins, scientific_ends}, ScientificShown.{number, numeral, shown_numeral}, ScientificUnique.{one_significand, one_exponent}, ShownValues.{scaled_first, shown_value}}}
 use Rattle.number_format.proofs.lemmas.read.ScientificShown as shown_texts
 
@@ -47,7 +47,9 @@ module _ (f : NumberFormatter) (form : ExponentForm) (h : exponent_form f f.opti
       → (f.outer ≡ OuterTexts.None) × (KeepsNotation f.digits × CanReadExponent f.style.symbols form)
   can_read (inl standard) =
       absurd (let none : None ≡ Some form = (λ i. exponent_form f (sym standard i)) ∙ h in cc)
-  can_read (inr (alone, can)) = (alone, subst (CanReadExponents f) h can)
+  can_read (inr (alone, inl can)) = (alone, subst (CanReadExponents f) h can)
+  can_read (inr (alone, inr words)) =
+      absurd (subst (CanReadWords f) (no_words f f.options.notation f.options.style form h) words)
 
   -- a number that is rounded has the exponent of the notation
   module _ (own : f.notation ≡ notation_of form) (w : Decimal) (valid : IsValue w.absolute) (x : ScaledValue) where

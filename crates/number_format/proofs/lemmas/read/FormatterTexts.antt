@@ -1,15 +1,15 @@
 -- The texts of a formatter are texts between those of patterns.
-use Rattle.std.proofs.{Common.{◌≡◌, ℕ, List, [], ◌++◌, refl, sym, ◌∙◌, ap, subst, arith, inl, inr, append-nil, append_assoc}}
+use Rattle.std.proofs.{Common.{◌≡◌, ℕ, List, [], ◌++◌, refl, sym, ◌∙◌, ap, subst, arith, append-nil, append_assoc}}
 use Rattle.std.specs.{Prelude.{Bool, true, Option, None, Some, IfSome, if◌then◌else◌}, List.Contains}
 use Rattle.decimal_unsigned.specs.Unsigned.{IsValue}
 use Rattle.fixed_decimal.specs.{Decimal.Decimal, declared.variations.Sign.Sign}
 use Rattle.decimal_format.specs.{Formatted.absolute_text}
 use Rattle.plural_rules.specs.{Operands.plain, declared.rules.PluralCategory.PluralCategory}
 use Rattle.locale_data.specs.Plurals.{IsCategoryAt}
-use Rattle.number_format.specs.{declared.{format.{outer.OuterTexts.OuterTexts, formatter.NumberFormatter.NumberFormatter}, options.{NumberOptions.NumberOptions, NumberNotation.NumberNotation}, read.pattern.{TheConstants.{SIGN_KEYS, CATEGORY_KEYS}}}, FormattedNumbers.{visible_text, exponent_text}, Formatters.IsFormatter, AffixedTexts.{between, IsShown}, NumberReading.{IsStandard, HasNoWords, CanReadExponents, CanReadNotation, HasPlainDigits, HasNumbers, outer_at, pattern_at, keys_by, reader_of, CanRead, IsShownAs}, NumberText.{IsNumberText, shown_sign, whole_number, compact_magnitude, is_one, compact_pattern, compact_style, operands_by, outer_by, outer_texts, around_by, bare_separator, number_part, exponent_of}, PatternTexts.{Around, pattern_around, affixes_for, within}, Scaled.ScaledValue, ScientificReading.exponent_form, TextParts.{Piece, pieces_text}}
+use Rattle.number_format.specs.{declared.{format.{outer.OuterTexts.OuterTexts, formatter.NumberFormatter.NumberFormatter}, options.{NumberOptions.NumberOptions, NumberNotation.NumberNotation}, read.pattern.{TheConstants.{SIGN_KEYS, CATEGORY_KEYS}}}, FormattedNumbers.{visible_text, exponent_text}, Formatters.IsFormatter, AffixedTexts.{between, IsShown}, NumberReading.{IsStandard, words_of, HasPlainDigits, HasNumbers, outer_at, pattern_at, keys_by, reader_of, CanRead, IsShownAs}, NumberText.{IsNumberText, shown_sign, whole_number, compact_magnitude, is_one, compact_pattern, compact_style, operands_by, outer_by, outer_texts, around_by, bare_separator, number_part, exponent_of}, PatternTexts.{Around, pattern_around, affixes_for, within}, Scaled.ScaledValue, TextParts.{Piece, pieces_text}}
 use Rattle.number_format.proofs.lemmas.{read.{AffixedNumbers.named_texts_are_unique, PatternLists.in_map}, format.PieceTexts.{shows_integer, text-of_digits_and_exponent, text-three}}
 
-some_same : (x y : ScaledValue) → Some x ≡ Some y → x ≡ y
+pub some_same : (x y : ScaledValue) → Some x ≡ Some y → x ≡ y
 some_same x y e = cc
 
 -- ---- The pattern of a category and a sign.
@@ -47,16 +47,9 @@ pub record IsKeyOf (f : NumberFormatter) (o : OuterTexts) (c : PluralCategory) (
   pub allowed : IfSome key.0 (λ own. own ≡ c)
   pub outer : outer_at f key.0 ≡ outer_by f c
 
--- a notation that is read has no words
-pub without_words : (f : NumberFormatter) → CanReadNotation f → HasNoWords f
-without_words f (inl standard) = ap (λ n. compact_style n f.options.style) standard
-without_words f (inr can) = by f.options.notation can.1
-  where
-    by : (n : NumberNotation) → CanReadExponents f (exponent_form f n) → compact_style n f.options.style ≡ None
-    by NumberNotation.Standard can = refl
-    by (NumberNotation.Compact words) can = absurd can
-    by (NumberNotation.Scientific o) can = refl
-    by (NumberNotation.Engineering o) can = refl
+-- no words of compact notation are written
+abbrev HasNoWords : NumberFormatter → Type 0
+HasNoWords f = words_of f ≡ None
 
 key_of : (f : NumberFormatter) → HasNoWords f → (c : PluralCategory) (s : Sign) (o : OuterTexts) → f.outer ≡ o
     → (key : Option PluralCategory × Sign) × IsKeyOf f o c s key
@@ -90,25 +83,50 @@ within_number : (a : Around) (pieces : List Piece) → a.has_number ≡ true
     → within a pieces ≡ a.prefix ++ (pieces ++ a.suffix)
 within_number a pieces has = ap (λ (b : Bool). a.prefix ++ ((if b then pieces else []) ++ a.suffix)) has
 
--- the text of pieces between what a sign writes around them, and what is around the whole text
-text_around : (f : NumberFormatter) (outer : Around) (s : Sign) (pieces : List Piece)
-    → pieces_text (outer.prefix ++ (((pattern_around f.style s).prefix
-    ++ (pieces ++ (pattern_around f.style s).suffix)) ++ outer.suffix))
-    ≡ (pieces_text outer.prefix ++ (affixes_for f.style s).prefix)
-    ++ (pieces_text pieces ++ ((affixes_for f.style s).suffix ++ pieces_text outer.suffix))
-text_around f outer s pieces =
-    let a = pattern_around f.style s in
+-- the text of pieces within what is around them and what is around the whole text
+text_around : (outer inner : Around) (pieces : List Piece)
+    → pieces_text (outer.prefix ++ ((inner.prefix ++ (pieces ++ inner.suffix)) ++ outer.suffix))
+    ≡ (pieces_text outer.prefix ++ pieces_text inner.prefix)
+    ++ (pieces_text pieces ++ (pieces_text inner.suffix ++ pieces_text outer.suffix))
+text_around outer inner pieces =
     let text = pieces_text pieces in
-    let inner = text-three a.prefix pieces a.suffix (affixes_for f.style s).prefix text (affixes_for f.style s).suffix
-    refl refl refl in
-    text-three outer.prefix (a.prefix ++ (pieces ++ a.suffix)) outer.suffix (pieces_text outer.prefix)
-    ((affixes_for f.style s).prefix ++ (text ++ (affixes_for f.style s).suffix)) (pieces_text outer.suffix) refl inner
-    refl
-    ∙ regrouped (pieces_text outer.prefix) (affixes_for f.style s).prefix text (affixes_for f.style s).suffix
-    (pieces_text outer.suffix)
+    let prefix = pieces_text inner.prefix in
+    let suffix = pieces_text inner.suffix in
+    let inside = text-three inner.prefix pieces inner.suffix prefix text suffix refl refl refl in
+    text-three outer.prefix (inner.prefix ++ (pieces ++ inner.suffix)) outer.suffix (pieces_text outer.prefix)
+    (prefix ++ (text ++ suffix)) (pieces_text outer.suffix) refl inside refl
+    ∙ regrouped (pieces_text outer.prefix) prefix text suffix (pieces_text outer.suffix)
   where
     regrouped : (a b c d e : List ℕ) → a ++ ((b ++ (c ++ d)) ++ e) ≡ (a ++ b) ++ (c ++ (d ++ e))
     regrouped a b c d e = simp append_assoc
+
+-- what is around the digits of a number
+abbrev pub inner_by : NumberFormatter → Decimal → ScaledValue → PluralCategory → Around
+inner_by f v number category =
+    around_by f.style (shown_sign f v number.significand)
+    (compact_pattern f.formats (words_of f) (compact_magnitude f.notation number.significand number.exponent) category
+    (is_one number.significand))
+
+-- the text of a number is that of the number that is shown, between these texts
+pub text_within : (f : NumberFormatter) (v u : Decimal) (text : List ℕ) → HasNumbers f → (t : IsNumberText f v text)
+    (shown : IsShownAs f v u) (inner : Around) → inner_by f v shown.number t.1.category ≡ inner
+    → inner.has_number ≡ true
+    → text ≡ (pieces_text (outer_by f t.1.whole).prefix ++ pieces_text inner.prefix)
+    ++ (pieces_text (number_part f u.absolute (exponent_of f.options.notation shown.number.exponent))
+    ++ (pieces_text inner.suffix ++ pieces_text (outer_by f t.1.whole).suffix))
+text_within f v u text has (pieces, is, of_pieces) shown inner chosen some =
+    let number : is.number ≡ shown.number = some_same _ _ (sym is.number_is ∙ shown.number_is) in
+    let outer = outer_by f is.whole in
+    let part = number_part f u.absolute (exponent_of f.options.notation shown.number.exponent) in
+    of_pieces
+    ∙ ap pieces_text is.value
+    ∙ (λ i. pieces_text (within outer (within (inner_by f v (number i) is.category)
+    (number_part f (number i).significand.absolute (exponent_of f.options.notation (number i).exponent)))))
+    ∙ (λ i. pieces_text (within outer (within (chosen i)
+    (number_part f (sym shown.absolute i) (exponent_of f.options.notation shown.number.exponent)))))
+    ∙ ap (λ inside. pieces_text (within outer inside)) (within_number inner part some)
+    ∙ ap pieces_text (within_number outer _ (has is.whole))
+    ∙ text_around outer inner part
 
 -- the text of a number without words is that of the number that is shown, between the texts of a pattern of its
 -- category and sign
@@ -117,23 +135,15 @@ pub text_between : (f : NumberFormatter) (v u : Decimal) (text : List ℕ) → H
     → IsKeyOf f f.outer t.1.whole (shown_sign f v shown.number.significand) key
     → text ≡ between (pattern_at f key)
     (pieces_text (number_part f u.absolute (exponent_of f.options.notation shown.number.exponent)))
-text_between f v u text words has (pieces, is, of_pieces) shown own key =
-    let number : is.number ≡ shown.number = some_same _ _ (sym is.number_is ∙ shown.number_is) in
-    let s = shown_sign f v shown.number.significand in
-    let e = exponent_of f.options.notation shown.number.exponent in
-    let outer = outer_by f is.whole in
-    of_pieces
-    ∙ ap pieces_text is.value
-    ∙ (λ i. pieces_text (within outer
-    (within (around_by f.style (shown_sign f v (number i).significand)
-    (compact_pattern f.formats (words i)
-    (compact_magnitude f.notation (number i).significand (number i).exponent) is.category
-    (is_one (number i).significand)))
-    (number_part f (number i).significand.absolute (exponent_of f.options.notation (number i).exponent)))))
-    ∙ ap pieces_text (within_number outer _ (has is.whole))
-    ∙ text_around f outer s (number_part f shown.number.significand.absolute e)
+text_between f v u text words has t shown own key =
+    let number = shown.number in
+    let s = shown_sign f v number.significand in
+    let e = exponent_of f.options.notation number.exponent in
+    text_within f v u text has t shown (pattern_around f.style s) (ap (λ w. around_by f.style s
+    (compact_pattern f.formats w (compact_magnitude f.notation number.significand number.exponent) t.1.category
+    (is_one number.significand))) words) refl
     ∙ (λ i. (pieces_text (sym key.outer i).prefix ++ (affixes_for f.style (sym key.sign i)).prefix)
-    ++ (pieces_text (number_part f (sym shown.absolute i) e)
+    ++ (pieces_text (number_part f u.absolute e)
     ++ ((affixes_for f.style (sym key.sign i)).suffix ++ pieces_text (sym key.outer i).suffix)))
 
 -- the text of a number in standard notation is that of the number that is shown

@@ -1,8 +1,8 @@
 -- Lists of patterns.
-use Rattle.std.proofs.{Common.{◌≡◌, ℕ, zero, suc, ◌+◌, ◌<◌, ◌≤◌, Bool, true, false, List, [], ◌∷◌, length, get_or, take, map, refl, sym, ◌∙◌, ap, subst, arith}, lemmas.{List.take_all, List.Elements.{All-contains, All-contains_itself, All-map, All-more}}}
+use Rattle.std.proofs.{Common.{◌≡◌, ℕ, zero, suc, ◌+◌, ◌<◌, ◌≤◌, Bool, true, false, List, [], ◌∷◌, ◌++◌, length, get_or, take, map, refl, sym, ◌∙◌, ap, subst, arith}, lemmas.{List.take_all, List.Elements.{All-contains, All-contains_itself, All-map, All-more}}}
 use Rattle.std.specs.{Prelude.{◌↔◌, ◌⊎◌, IsTrue, All}, List.Contains}
-use Rattle.decimal_format.specs.Symbols.{Symbols, Affixes}
-use Rattle.number_format.specs.{declared.{format.text_part.{PartKind.PartKind, TextPart.TextPart}, read.pattern.NumberPattern.NumberPattern}, AffixedTexts.{AreNamed, ArePairApart, AreToldApart}, TextParts.{Piece, parts_pieces, parts_text, pieces_of, pieces_text}}
+use Rattle.decimal_format.specs.Symbols.{Symbols, Affixes, affixes}
+use Rattle.number_format.specs.{declared.{format.{affixes.NumberAffixes.NumberAffixes, outer.OuterAround.OuterAround, text_part.{PartKind.PartKind, TextPart.TextPart}}, read.pattern.NumberPattern.NumberPattern}, AffixedTexts.{AreNamed, ArePairApart, AreToldApart}, FormattedNumbers.IsOuter, NumberText.AreParts, PatternTexts.Around, TextParts.{Piece, parts_pieces, parts_text, pieces_of, pieces_text}}
 use Rattle.number_format.proofs.lemmas.format.PieceTexts.{text-of, text-of_parts}
 
 -- ---- A loop that ends at the first element that fails a test.
@@ -56,10 +56,13 @@ module _ (s : Symbols) where
 
 -- a test of their texts and signs
 pub told_by : (s : Symbols) (r : Bool) (a b : Affixes) (p q : NumberPattern) → a ≡ p.affixes → b ≡ q.affixes
-    → IsTrue r ↔ (((a ≡ b) × (p.sign ≡ q.sign)) ⊎ ArePairApart s a b) → IsTrue r ↔ AreToldApart s p q
+    → IsTrue r ↔ (((a ≡ b) × (p.sign ≡ q.sign) × (p.exponent ≡ q.exponent)) ⊎ ArePairApart s a b)
+    → IsTrue r ↔ AreToldApart s p q
 told_by s r a b p q first second test =
-    subst (λ x. IsTrue r ↔ (((p.affixes ≡ x) × (p.sign ≡ q.sign)) ⊎ ArePairApart s p.affixes x)) second
-    (subst (λ x. IsTrue r ↔ (((x ≡ b) × (p.sign ≡ q.sign)) ⊎ ArePairApart s x b)) first test)
+    subst (λ x. IsTrue r ↔ (((p.affixes ≡ x) × (p.sign ≡ q.sign) × (p.exponent ≡ q.exponent))
+    ⊎ ArePairApart s p.affixes x)) second
+    (subst (λ x. IsTrue r ↔ (((x ≡ b) × (p.sign ≡ q.sign) × (p.exponent ≡ q.exponent)) ⊎ ArePairApart s x b)) first
+    test)
 
 -- ---- The texts of pieces.
 
@@ -69,3 +72,14 @@ piece_text k text ps e = sym (text-of k text) ∙ ap pieces_text e
 pub parts_text_is : (parts : List TextPart) (ps : List Piece) → parts_pieces parts ≡ ps
     → parts_text parts ≡ pieces_text ps
 parts_text_is parts ps e = sym (text-of_parts parts) ∙ ap pieces_text e
+
+-- what is around a whole text, and what is around the number in it
+pub joined_are : (outer : OuterAround) (inner : NumberAffixes) (a b : Around) → IsOuter a outer → AreParts b inner
+    → affixes (parts_text outer.before ++ parts_text inner.prefix) (parts_text inner.suffix ++ parts_text outer.after)
+    ≡ affixes (pieces_text a.prefix ++ pieces_text b.prefix) (pieces_text b.suffix ++ pieces_text a.suffix)
+joined_are outer inner a b is are =
+    let before = piece_text outer.kind _ a.prefix is.prefix in
+    let after = piece_text outer.kind _ a.suffix is.suffix in
+    let prefix = parts_text_is inner.prefix b.prefix are.prefix in
+    let suffix = parts_text_is inner.suffix b.suffix are.suffix in
+    λ i. affixes (before i ++ prefix i) (suffix i ++ after i)

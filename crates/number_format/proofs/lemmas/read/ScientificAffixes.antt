@@ -1,10 +1,10 @@
 -- Numbers with an exponent between the texts of patterns.
-use Rattle.std.proofs.Common.{◌≡◌, ◌≢◌, ℕ, List, inl, inr, refl, sym, ◌∙◌, ap, subst}
+use Rattle.std.proofs.Common.{◌≡◌, ℕ, List, inl, inr, refl, sym, ◌∙◌, ap, subst}
 use Rattle.std.specs.{Prelude.{◌⊎◌, ◌<◌, ◌^◌, Option, Some, None, Result, Ok, Err, ok_or, ℤ, unsigned_abs}, List.Contains}
 use Rattle.decimal_unsigned.specs.{Edits.multiplied_pow10, Unsigned.{Unsigned, IsValue}, declared.error.ParseError.{ParseError, TheVariants.{Syntax, Limit, Memory}}}
 use Rattle.fixed_decimal.specs.{Decimal.{Decimal, with_absolute}, declared.variations.Sign.Sign}
 use Rattle.decimal_format.specs.{declared.grouping.GroupingStrategy.GroupingStrategy, Readable.IsReadable}
-use Rattle.number_format.specs.{declared.read.{pattern.NumberPattern.NumberPattern, scientific.ExponentForm.ExponentForm}, AffixedTexts.{Reader, AreNamed, between, shifted, IsBetween, IsSplit}, ScientificReading.{ScientificNumeral, IsScientificNumeral, IsValueOrMemory, IsReadScientific, scientific_value, CanReadExponent, HasExponentOf, notation_of, scientific_text}, AffixedExponents.{IsShownScientific, signed, IsReadShownExponent, IsReadWithExponent}}
+use Rattle.number_format.specs.{declared.read.{pattern.NumberPattern.NumberPattern, scientific.ExponentForm.ExponentForm}, AffixedTexts.{Reader, AreNamed, between, shifted, IsBetween, IsSplit}, ScientificReading.{ScientificNumeral, IsScientificNumeral, IsReadScientific, scientific_value, CanReadExponent, HasExponentOf, notation_of, scientific_text}, AffixedExponents.{IsShownScientific, signed, IsReadShownExponent, IsReadWithExponent}}
 use Rattle.number_format.proofs.lemmas.read.{AffixedNumbers.only_middle, ScientificBodies.{scientific_begins, scientific_ends}, ScientificShown.{numeral_is, shown_numeral}}
 
 module _ (r : Reader) (f : ExponentForm) (bytes : List ℕ) (inline : ℕ) where

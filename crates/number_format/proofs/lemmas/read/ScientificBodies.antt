@@ -1,6 +1,6 @@
 -- Numbers with an exponent between other texts.
-use Rattle.std.proofs.Common.{◌≡◌, ℕ, ◌<◌, false, true, List, [], ◌∷◌, ◌++◌, length, refl, sym, ◌∙◌, ap, subst, arith, append-nil, append_assoc}
-use Rattle.std.specs.{Prelude.{Option, Some, None, ℤ}, Int.Digits.AllBelowBase}
+use Rattle.std.proofs.Common.{◌≡◌, ℕ, ◌<◌, false, true, List, [], ◌∷◌, ◌++◌, length, refl, sym, ◌∙◌, ap, subst, arith, append-nil}
+use Rattle.std.specs.{Prelude.{Some, ℤ}, Int.Digits.AllBelowBase}
 use Rattle.decimal_unsigned.specs.Unsigned.{Unsigned}
 use Rattle.decimal_format.specs.{declared.grouping.GroupingStrategy.TheVariants.Never, Symbols.{Symbols, sign_affixes}, Formatted.absolute_text, Readable.{BeginsWithDigit, EndsWithDigit}, Reading.digits_text}
 use Rattle.decimal_format.proofs.lemmas.reader.Scans.{begins-append}

@@ -1,4 +1,4 @@
-use Rattle.std.proofs.Common.{◌+◌, subst, arith, true}
+use Rattle.std.proofs.Common.{subst, arith, true}
 use Rattle.decimal_digits.specs.AppendsPrefix.{AppendsPrefix}
 use Rattle.fixed_decimal.proofs.Calling.{on_err, second_of_three}
 use Rattle.number_format.proofs.lemmas.format.Fractions.{appends_nil, appends_trans, none, text-more, text-split}

@@ -1,6 +1,4 @@
-use Rattle.std.proofs.{Common.{◌∙◌, true, subst, pos, ◌-ℤ◌}, lemmas.Result.on_err_weaker}
-use Rattle.std.specs.Io.KnownBytes.{Appends}
-use Rattle.decimal_digits.specs.AppendsPrefix.{AppendsPrefix}
+use Rattle.std.proofs.{Common.{true, pos, ◌-ℤ◌}, lemmas.Result.on_err_weaker}
 use Rattle.fixed_decimal.proofs.Calling.{on_err, first_of_three, second_of_three, third_of_three}
 use Rattle.decimal_format.specs.Formatted.{separator_before, separator_after}
 use Rattle.number_format.specs.TextParts.{digit_if}

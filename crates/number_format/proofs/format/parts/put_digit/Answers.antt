@@ -2,7 +2,7 @@ use Rattle.std.proofs.{Common.{◌≡◌, ◌∙◌, [], false, true, ap, sym, s
 use Rattle.std.specs.Prelude.{if◌then◌else◌}
 use Rattle.decimal_digits.specs.Number.{digit}
 use Rattle.decimal_format.specs.Symbols.{digit_text}
-use Rattle.number_format.specs.TextParts.{Puts, PutsPrefix, digit_if, digit_kind, is_shown, pieces_of}
+use Rattle.number_format.specs.TextParts.{Puts, PutsPrefix, digit_kind, is_shown, pieces_of}
 use Rattle.number_format.proofs.lemmas.format.PieceTexts.{puts_nil}
 use Rattle.number_format.proofs.format.parts.put_digit.Goals as goal
 

@@ -1,4 +1,4 @@
-use Rattle.std.proofs.{lemmas.{List.reverse-reverse, Str.{IsCharBoundary-from_take, encodes-chars}}, Common.{◌≡◌, length, reverse, take, drop, ◌∙◌, ap, sym, subst, arith}}
+use Rattle.std.proofs.{lemmas.{List.reverse-reverse, Str.{IsCharBoundary-from_take, encodes-chars}}, Common.{length, reverse, take, drop, ◌∙◌, ap, sym, subst}}
 use Rattle.std.specs.Str.{IsUtf8, chars, encode_utf8_all}
 use Rattle.number_format.specs.TrimmedTexts.{kept_length}
 use Rattle.number_format.proofs.format.trimmed.split_end.Goals as goal

@@ -1,4 +1,4 @@
-use Rattle.std.proofs.{lemmas.{Str.{chars-append, chars-nil, chars_past_char, IsUtf8-encode}, List.append-nil}, Common.{◌≡◌, ℕ, List, [], ◌∷◌, ◌++◌, length, ◌∙◌, ap, sym, refl, rules, arith}}
+use Rattle.std.proofs.{lemmas.{Str.{chars-append, chars-nil, chars_past_char, IsUtf8-encode}, List.append-nil}, Common.{◌≡◌, ℕ, List, [], ◌∷◌, ◌++◌, length, ◌∙◌, ap, sym, rules, arith}}
 use Rattle.std.specs.{Char.{IsScalar, encode_utf8}, Str.{IsUtf8, chars}}
 use Rattle.number_format.proofs.format.trimmed.split_last.Goals as goal
 

@@ -1,4 +1,4 @@
-use Rattle.std.proofs.{lemmas.Str.{IsCharBoundary-from_drop, encodes-chars}, Common.{◌≡◌, ◌-◌, length, take, drop, ◌∙◌, ap, sym, subst, arith}}
+use Rattle.std.proofs.{lemmas.Str.{IsCharBoundary-from_drop, encodes-chars}, Common.{◌-◌, length, take, drop, ◌∙◌, ap, sym, subst, arith}}
 use Rattle.std.specs.Str.{IsUtf8, encode_utf8_all}
 use Rattle.number_format.specs.TrimmedTexts.{trimmed_length}
 use Rattle.number_format.proofs.format.trimmed.split_start.Goals as goal

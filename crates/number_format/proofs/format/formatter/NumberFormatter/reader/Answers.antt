@@ -1,7 +1,9 @@
-use Rattle.std.proofs.Common.{◌≡◌, inl, inr, sym, ◌∙◌, ap, subst}
+use Rattle.std.proofs.Common.{◌≡◌, inl, inr, refl, sym, ◌∙◌, ap, subst}
 use Rattle.std.specs.Prelude.{Option, Some, None, IfSome}
 use Rattle.decimal_format.specs.Symbols.{Symbols}
-use Rattle.number_format.specs.{declared.{format.formatter.NumberFormatter.NumberFormatter, options.NumberNotation.NumberNotation, read.scientific.ExponentForm.ExponentForm}, AffixedTexts.Reader, NumberReading.{CanReadExponents, CanReadNotation}, ScientificReading.{IsSeparatorApart, exponent_form}}
+use Rattle.locale_data.specs.declared.compact.CompactStyle.{CompactStyle}
+use Rattle.number_format.specs.{declared.{format.formatter.NumberFormatter.NumberFormatter, options.NumberNotation.NumberNotation, read.scientific.ExponentForm.ExponentForm}, AffixedTexts.Reader, NumberReading.{CanReadExponents, CanReadNotation, CanReadWords, words_of}, ScientificReading.{IsSeparatorApart, exponent_form}}
+use Rattle.number_format.proofs.lemmas.read.CompactTexts.{no_form}
 use Rattle.number_format.proofs.format.formatter.NumberFormatter.reader.Goals as goal
 
 abbrev IsApart : Symbols → Option ExponentForm → Type 0
@@ -11,11 +13,19 @@ apart_by : (f : NumberFormatter) (x : Option ExponentForm) → CanReadExponents 
 apart_by f (Some form) can = can.1.separator
 apart_by f None can = absurd can
 
+-- a notation with words has no exponents
+words_by : (f : NumberFormatter) (w : Option CompactStyle) → words_of f ≡ w → CanReadWords f w
+    → IsApart f.style.symbols (exponent_form f f.options.notation)
+words_by f (Some style) words can =
+    subst (IsApart f.style.symbols) (sym (no_form f f.options.notation f.options.style style words)) tt
+words_by f None words can = absurd can
+
 -- the separator of exponents that can be read is apart
 is_apart : (f : NumberFormatter) → CanReadNotation f → IsApart f.style.symbols (exponent_form f f.options.notation)
 is_apart f (inl standard) =
     subst (λ (n : NumberNotation). IsApart f.style.symbols (exponent_form f n)) (sym standard) tt
-is_apart f (inr can) = apart_by f (exponent_form f f.options.notation) can.1
+is_apart f (inr (alone, inl can)) = apart_by f (exponent_form f f.options.notation) can
+is_apart f (inr (alone, inr can)) = words_by f (words_of f) refl can
 
 pub invariant_of-result : goal.invariant_of-result
 invariant_of-result c =

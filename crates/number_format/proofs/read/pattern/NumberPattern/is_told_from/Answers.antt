@@ -9,8 +9,10 @@ returns-then-not-are_told_apart c =
     let p = c.args.self.now in
     let s = c.args.symbols.now in
     let item = c.other-item.result in
+    let texts = c.texts-texts.ensures in
+    let others = c.texts-others.ensures in
     let test : IsTrue c.are_told_apart.result ↔ AreToldApart s p item =
-    rw (c.texts-texts.ensures.prefix, c.texts-texts.ensures.suffix, c.texts.ensures.prefix, c.texts.ensures.suffix)
+    rw (texts.prefix, texts.suffix, others.prefix, others.suffix, c.meaning.ensures, c.meaning-in-loop-other.ensures)
     at c.are_told_apart.ensures in
     not_all (AreToldApart s p) c.args.others.now c.loop-other.other-index item item c.are_told_apart.result
     (omega arith) c.other-item.is test c.if-not-are_told_apart.true
@@ -20,8 +22,10 @@ loop-other-preserved c =
     let p = c.args.self.now in
     let s = c.args.symbols.now in
     let item = c.other-item.result in
+    let texts = c.texts-texts.ensures in
+    let others = c.texts-others.ensures in
     let test : IsTrue c.are_told_apart.result ↔ AreToldApart s p item =
-    rw (c.texts-texts.ensures.prefix, c.texts-texts.ensures.suffix, c.texts.ensures.prefix, c.texts.ensures.suffix)
+    rw (texts.prefix, texts.suffix, others.prefix, others.suffix, c.meaning.ensures, c.meaning-in-loop-other.ensures)
     at c.are_told_apart.ensures in
     all_more (AreToldApart s p) c.args.others.now c.loop-other.other-index item item c.are_told_apart.result
     (omega arith) c.other-item.is test c.if-not-are_told_apart.false c.loop-other.invariant

@@ -1,0 +1,217 @@
+-- Whether a significand is written with the texts of a pattern.
+use Rattle.std.proofs.{Common.{◌≡◌, ℕ, Bool, true, false, List, ◌++◌, inl, inr, refl, sym, ◌∙◌, ap, subst, w16, w32, to_z, of_z, FitsSigned}, lemmas.Int.to_z-of_z}
+use Rattle.std.specs.{Prelude.{◌↔◌, ◌⊎◌, IsTrue, Result, Ok, Err, ℤ, pos, ◌≤ℤ◌}, List.Contains}
+use Rattle.decimal_unsigned.specs.declared.error.ParseError.{ParseError}
+use Rattle.fixed_decimal.specs.{Decimal.Decimal}
+use Rattle.plural_rules.specs.{Operands.plain, declared.rules.PluralCategory.PluralCategory}
+use Rattle.locale_data.specs.{Plurals.IsCategoryAt, declared.compact.CompactStyle.CompactStyle}
+use Rattle.decimal_format.specs.{Formatted.absolute_text, Reading.IsRead, Symbols.{Affixes, affixes}}
+use Rattle.number_format.specs.{declared.{format.{formatter.NumberFormatter.NumberFormatter, outer.OuterTexts.OuterTexts}, read.{compact.keys.CompactKey.CompactKey, pattern.NumberPattern.NumberPattern}}, AffixedTexts.{Reader, shifted, IsNumeral, IsWritten, IsWrittenBy}, CompactReading.{inner_at, category_at, word_pattern, word_reader, magnitude_by, is_unit, HasTextsOf, IsOwnOr, IsOwnPattern, IsReadShownInWords, IsShownInWords, IsReadInAnyWords, IsWordReader}, NumberText.outer_by, PatternTexts.Around, Scaled.exponent_at, TextParts.pieces_text}
+use Rattle.number_format.proofs.lemmas.{range.RangeEnds.category_unique, read.{AffixedNumbers.two_texts, CompactKeys.{same_outer, whole_code}, CompactTexts.small_exponent}}
+
+-- powers of ten are compared as 32-bit integers
+pub same_powers : (b : Bool) (m n : ℤ) → FitsSigned w32 m → FitsSigned w32 n
+    → IsTrue b ↔ (to_z w32 (of_z w32 m) ≡ to_z w32 (of_z w32 n)) → IsTrue b ↔ (m ≡ n)
+same_powers b m n fits other test =
+    subst (λ (k : ℤ). IsTrue b ↔ (k ≡ n)) (to_z-of_z w32 m fits)
+    (subst (λ (k : ℤ). IsTrue b ↔ (to_z w32 (of_z w32 m) ≡ k)) (to_z-of_z w32 n other) test)
+
+-- the magnitude of a key is kept as a 16-bit integer
+pub narrow_key : (P : CompactKey → Type 0) (k : CompactKey) → FitsSigned w16 k.magnitude
+    → P (record k { magnitude = to_z w16 (of_z w16 k.magnitude) }) → P k
+narrow_key P k fits x = subst (λ (z : ℤ). P (record k { magnitude = z })) (to_z-of_z w16 k.magnitude fits) x
+
+module _ (f : NumberFormatter) (style : CompactStyle) (v : Decimal) (p : NumberPattern) (m : ℤ)
+    (magnitude : m ≡ magnitude_by v.absolute p.exponent) (sign : p.sign ≡ v.sign) where
+  own_magnitude : (own : IsOwnPattern f style v p) → own.key.magnitude ≡ m
+  own_magnitude own = own.own.magnitude ∙ ap (magnitude_by v.absolute) (sym own.is.2) ∙ sym magnitude
+
+  own_exponent : IsOwnPattern f style v p → exponent_at f.notation m ≡ p.exponent
+  own_exponent own = ap (exponent_at f.notation) (sym (own_magnitude own)) ∙ sym own.is.2
+
+  -- the exponent is another one
+  pub not_own : (exponent_at f.notation m ≡ p.exponent → ⊥) → IsTrue false ↔ IsOwnPattern f style v p
+  not_own other = (λ t. absurd (cc), λ own. absurd (other (own_exponent own)))
+
+  module _ (c : PluralCategory) (of_value : IsCategoryAt f.rules (plain v.absolute) c) where
+    abbrev pub key : Bool → CompactKey
+    key one =
+        record { magnitude = m; category = c; is_one = one; whole = PluralCategory.Other; sign = p.sign }
+
+    pub texts_of_key : FitsSigned w16 m → (one b : Bool)
+        → IsTrue b ↔ HasTextsOf f style p (record (key one) { magnitude = to_z w16 (of_z w16 m) })
+        → IsTrue b ↔ HasTextsOf f style p (key one)
+    texts_of_key fits one b test =
+        narrow_key (λ (k : CompactKey). IsTrue b ↔ HasTextsOf f style p k) (key one) fits test
+
+    -- of a key that was copied
+    pub texts_of_copy : FitsSigned w16 m → (one b : Bool)
+        → IsTrue b ↔ HasTextsOf f style p (record (key one) { magnitude = to_z w16 (of_z w16 (to_z w16 (of_z w16 m))) })
+        → IsTrue b ↔ HasTextsOf f style p (key one)
+    texts_of_copy fits one b test =
+        texts_of_key fits one b
+        (subst (λ (z : ℤ). IsTrue b ↔ HasTextsOf f style p (record (key one) { magnitude = to_z w16 (of_z w16 z) }))
+        (to_z-of_z w16 m fits) test)
+
+    own_by : (one : Bool) → (one ≡ true → is_unit v.absolute ≡ true) → exponent_at f.notation m ≡ p.exponent
+        → HasTextsOf f style p (key one) → IsOwnPattern f style v p
+    own_by one unit exponent has = record {
+      key = record (key one) { whole = has.0 };
+      own = record {
+        magnitude = magnitude ∙ ap (magnitude_by v.absolute) (sym exponent);
+        category = of_value;
+        is_one = unit;
+        sign = sign;
+      };
+      is = (has.1, refl, sym exponent);
+    }
+
+    texts_by : (own : IsOwnPattern f style v p) → HasTextsOf f style p (key own.key.is_one)
+    texts_by own =
+        let k = own.key in
+        let category = category_unique f.rules (plain v.absolute) k.category c own.own.category of_value in
+        let same : k ≡ record (key k.is_one) { whole = k.whole } =
+        λ i. record {
+          magnitude = own_magnitude own i;
+          category = category i;
+          is_one = k.is_one;
+          whole = k.whole;
+          sign = sym own.is.1 i;
+        } in
+        (k.whole, own.is.0 ∙ ap (λ x. (word_pattern f style x).affixes) same)
+
+    -- the texts are those for another number than 1
+    pub own_plural : exponent_at f.notation m ≡ p.exponent → HasTextsOf f style p (key false)
+        → IsTrue true ↔ IsOwnPattern f style v p
+    own_plural exponent has = (λ t. own_by false (λ e. absurd (cc)) exponent has, λ own. refl)
+
+    -- they are not, and the number is no 1
+    pub not_unit : (b : Bool) → b ≡ is_unit v.absolute → b ≡ false → ¬ HasTextsOf f style p (key false)
+        → IsTrue b ↔ IsOwnPattern f style v p
+    not_unit b is off none = (
+      λ t. absurd (let on : b ≡ true = t in let e = sym off ∙ on in cc),
+      λ own. absurd (by own.key.is_one (texts_by own) own.own.is_one),
+    )
+      where
+        by : (one : Bool) → HasTextsOf f style p (key one) → (one ≡ true → is_unit v.absolute ≡ true) → ⊥
+        by false has unit = none has
+        by true has unit = absurd (let e = sym off ∙ is ∙ unit refl in cc)
+
+    -- it is 1, and the texts are those for 1 or not
+    pub own_singular : (b r : Bool) → b ≡ is_unit v.absolute → b ≡ true → exponent_at f.notation m ≡ p.exponent
+        → ¬ HasTextsOf f style p (key false) → IsTrue r ↔ HasTextsOf f style p (key true)
+        → IsTrue r ↔ IsOwnPattern f style v p
+    own_singular b r is on exponent none test = (
+      λ t. own_by true (λ e. sym is ∙ on) exponent (test.0 t),
+      λ own. by own.key.is_one (texts_by own),
+    )
+      where
+        by : (one : Bool) → HasTextsOf f style p (key one) → IsTrue r
+        by false has = absurd (none has)
+        by true has = test.1 has
+
+-- the texts of a key are those of the category `other` or `one` of the whole number
+module _ (f : NumberFormatter) (style : CompactStyle) (p : NumberPattern) (k : CompactKey)
+    (alone : f.outer ≡ OuterTexts.None) where
+  abbrev texts : Around → Affixes
+  texts outer = affixes (pieces_text outer.prefix ++ pieces_text (inner_at f style k).prefix)
+      (pieces_text (inner_at f style k).suffix ++ pieces_text outer.suffix)
+
+  abbrev HasTexts : PluralCategory → Type 0
+  HasTexts whole = p.affixes ≡ (word_pattern f style (record k { whole = whole })).affixes
+
+  one_of : HasTextsOf f style p k → HasTexts PluralCategory.Other ⊎ HasTexts PluralCategory.One
+  one_of (whole, e) = go whole (e ∙ ap texts (same_outer f alone whole))
+    where
+      go : (c : PluralCategory) → p.affixes ≡ texts (outer_by f (category_at (whole_code c)))
+          → HasTexts PluralCategory.Other ⊎ HasTexts PluralCategory.One
+      go PluralCategory.One e = inr e
+      go PluralCategory.Other e = inl e
+      go PluralCategory.Two e = inl e
+      go PluralCategory.Few e = inl e
+      go PluralCategory.Many e = inl e
+      go PluralCategory.Zero e = inl e
+
+  pub texts_of_other : (b : Bool) → b ≡ true → HasTexts PluralCategory.Other → IsTrue b ↔ HasTextsOf f style p k
+  texts_of_other b on e = (λ t. (PluralCategory.Other, e), λ has. on)
+
+  pub texts_of_one : (b : Bool) → ¬ HasTexts PluralCategory.Other → IsTrue b ↔ HasTexts PluralCategory.One
+      → IsTrue b ↔ HasTextsOf f style p k
+  texts_of_one b none test = (
+    λ t. (PluralCategory.One, test.0 t),
+    λ has. elim (one_of has) [ inl e ↦ absurd (none e) | inr e ↦ test.1 e ],
+  )
+
+-- ---- What is read.
+
+module _ (f : NumberFormatter) (style : CompactStyle) (r : Reader) (is : IsWordReader f style r) where
+  -- the exponents of patterns are small
+  pub pattern_exponent : (p : NumberPattern) → Contains r.patterns p
+      → (pos 0 ≤ℤ p.exponent) × (p.exponent ≤ℤ pos 19)
+  pattern_exponent p listed =
+      let k = is.patterns.only p listed in
+      subst (λ (x : NumberPattern). (pos 0 ≤ℤ x.exponent) × (x.exponent ≤ℤ pos 19)) (sym k.1)
+      (small_exponent f.notation is.exponents k.0.magnitude)
+
+  module _ (inline : ℕ) (text : List ℕ) where
+    abbrev pub IsReadHere : Result Decimal ParseError → Type 0
+    IsReadHere = IsRead inline (IsNumeral r text) (IsWritten r text)
+
+    abbrev IsReadThere : Reader → Result Decimal ParseError → Type 0
+    IsReadThere q = IsRead inline (IsNumeral q text) (IsWritten q text)
+
+    there : (found : Result Decimal ParseError) → IsReadHere found → IsReadThere (word_reader f r.patterns) found
+    there found read = subst (λ (q : Reader). IsReadThere q found) is.reader read
+
+    -- nothing is found
+    pub read_error : (e : ParseError) → IsReadHere (Err e) → IsReadShownInWords inline f style text (Err e)
+    read_error e read = (r.patterns, Err e, is.patterns, there (Err e) read, refl)
+
+    pub any_error : (e : ParseError) → IsReadHere (Err e) → IsReadInAnyWords inline f style text (Err e)
+    any_error e read = (r.patterns, Err e, is.patterns, there (Err e) read, refl)
+
+    module _ (v : Decimal) (p : NumberPattern) (by : IsWrittenBy r text v p) (read : IsReadHere (Ok v))
+        (result : Result Decimal ParseError) where
+      symbols : r.symbols ≡ f.style.symbols
+      symbols = ap (λ (q : Reader). q.symbols) is.reader
+
+      text_is : text ≡ p.affixes.prefix ++ (absolute_text f.style.symbols by.strategy v.absolute ++ p.affixes.suffix)
+      text_is =
+          by.is ∙ (λ i. p.affixes.prefix ++ (absolute_text (symbols i) by.strategy v.absolute ++ p.affixes.suffix))
+
+      shown_of : (own : IsOwnPattern f style v p) → IsShownInWords f style text v p.exponent
+      shown_of own = record {
+        key = own.key;
+        own = own.own;
+        exponent = sym own.is.2;
+        strategy = by.strategy;
+        is = text_is ∙ ap (λ (a : Affixes). a.prefix
+            ++ (absolute_text f.style.symbols by.strategy v.absolute ++ a.suffix)) own.is.0;
+      }
+
+      read_own : IsOwnPattern f style v p → result ≡ shifted p.exponent (Ok v)
+          → IsReadShownInWords inline f style text result
+      read_own own e =
+          (r.patterns, Ok v, is.patterns, there (Ok v) read, inl (p.exponent, shown_of own, e))
+
+      own_of : (e : ℤ) → IsShownInWords f style text v e → IsOwnPattern f style v p
+      own_of e shown =
+          let q = word_pattern f style shown.key in
+          let same = two_texts f.style.symbols is.readable p q
+          (is.named.pair p q by.listed (is.patterns.all shown.key)) v v read.found.0 read.found.0 by.sign
+          shown.own.sign by.strategy shown.strategy (sym text_is ∙ shown.is) in
+          record { key = shown.key; own = shown.own; is = same.0 }
+
+      pub read_value : IsOwnOr f style p v result → IsReadShownInWords inline f style text result
+      read_value (inl own) = read_own own.0 own.1
+      read_value (inr other) =
+          (r.patterns, Ok v, is.patterns, there (Ok v) read, inr (λ e shown. other.0 (own_of e shown), other.1))
+
+      pub read_any : result ≡ shifted p.exponent (Ok v) → IsReadInAnyWords inline f style text result
+      read_any e = (
+        r.patterns,
+        Ok v,
+        is.patterns,
+        there (Ok v) read,
+        (p, subst (λ (q : Reader). IsWrittenBy q text v p) is.reader by, e),
+      )

@@ -1,0 +1,139 @@
+-- The patterns of compact notation, by the indexes of their keys.
+use Rattle.std.proofs.{Common.{◌≡◌, ℕ, zero, suc, ◌+◌, ◌<◌, ◌≤◌, Bool, true, false, List, [], ◌∷◌, ◌++◌, inl, inr, refl, sym, ◌∙◌, subst, arith}, lemmas.Bool.cases_lt}
+use Rattle.std.specs.{Prelude.{◌↔◌, ◌⊎◌, IsTrue}, List.Contains}
+use Rattle.locale_data.specs.declared.compact.CompactStyle.{CompactStyle}
+use Rattle.number_format.specs.{declared.{format.{outer.OuterTexts.OuterTexts, formatter.NumberFormatter.NumberFormatter}, read.{compact.keys.CompactKey.CompactKey, pattern.NumberPattern.NumberPattern}}, AffixedTexts.{AreNamed, AreToldApart}, CompactReading.{inner_at, word_pattern, key_at, AreWordPatterns, AreWordsNamed, HasCompactExponents, HasWordNumbers, IsIndexApart, RepeatsAnother}}
+use Rattle.number_format.proofs.lemmas.read.CompactKeys.{index_of}
+
+-- ---- A loop over indexes that passes over those that repeat another.
+
+module _ (Q : ℕ → Type 0) where
+  abbrev pub AllBelow : ℕ → Type 0
+  AllBelow n = (i : ℕ) → i < n → Q i
+
+  pub one_more : (n : ℕ) → AllBelow n → Q n → AllBelow (n + 1)
+  one_more n all here i below = elim (cases_lt i n) [
+    | inl h ↦ all i h
+    | inr h ↦ subst Q (omega (arith, h, below)) here
+  ]
+
+  pub fails_at : (n end : ℕ) (b : Bool) → n < end → IsTrue b ↔ Q n → b ≡ false → IsTrue false ↔ AllBelow end
+  fails_at n end b below test fails =
+      (λ t. absurd (cc), λ all. let t = test.1 (all n below) in absurd (cc))
+
+  pub all_of : (n end : ℕ) → end ≤ n → AllBelow n → AllBelow end
+  all_of n end long all i below = all i (omega (arith, long, below))
+
+-- ---- A list with one element more.
+
+contains_last : (xs : List NumberPattern) (x : NumberPattern) → Contains (xs ++ x ∷ []) x
+contains_last [] x = (0, omega arith, refl)
+contains_last (y ∷ ys) x = let c = contains_last ys x in (suc c.0, omega (arith, c.1), c.2)
+
+contains_before : (xs : List NumberPattern) (x y : NumberPattern) → Contains xs y → Contains (xs ++ x ∷ []) y
+contains_before [] x y (k, below, e) = absurd (omega (arith, below))
+contains_before (z ∷ zs) x y (zero, below, e) = (0, omega arith, e)
+contains_before (z ∷ zs) x y (suc k, below, e) =
+    let c = contains_before zs x y (k, omega (arith, below), e) in (suc c.0, omega (arith, c.1), c.2)
+
+of_either : (xs : List NumberPattern) (x y : NumberPattern) → Contains (xs ++ x ∷ []) y → Contains xs y ⊎ (y ≡ x)
+of_either [] x y (zero, below, e) = inr (sym e)
+of_either [] x y (suc k, below, e) = absurd (omega (arith, below))
+of_either (z ∷ zs) x y (zero, below, e) = inl (0, omega arith, e)
+of_either (z ∷ zs) x y (suc k, below, e) = elim (of_either zs x y (k, omega (arith, below), e)) [
+  | inl c ↦ inl (suc c.0, omega (arith, c.1), c.2)
+  | inr same ↦ inr same
+]
+
+-- ---- What holds of each index holds of each key.
+
+module _ (f : NumberFormatter) (style : CompactStyle) where
+  abbrev pub HasNumberAt : ℕ → Type 0
+  HasNumberAt i = (inner_at f style (key_at i)).has_number ≡ true
+
+  pub number_again : (i n : ℕ) → i ≤ n → AllBelow HasNumberAt n → RepeatsAnother f style i → HasNumberAt i
+  number_again i n within all (j, below, alike) = sym alike.has_number ∙ all j (omega (arith, within, below))
+
+  abbrev pub IsToldFrom : CompactKey → ℕ → Type 0
+  IsToldFrom k j = AreToldApart f.style.symbols (word_pattern f style k) (word_pattern f style (key_at j))
+
+  pub told_again : (k : CompactKey) (i n : ℕ) → i ≤ n → AllBelow (IsToldFrom k) n → RepeatsAnother f style i
+      → IsToldFrom k i
+  told_again k i n within all (j, below, alike) =
+      subst (AreToldApart f.style.symbols (word_pattern f style k)) alike.pattern (all j (omega (arith, within, below)))
+
+  pub apart_again : (i n : ℕ) → i ≤ n → AllBelow (IsIndexApart f style) n → RepeatsAnother f style i
+      → IsIndexApart f style i
+  apart_again i n within all (j, below, alike) = λ l h.
+      subst (λ p. AreToldApart f.style.symbols p (word_pattern f style (key_at l))) alike.pattern
+      (all j (omega (arith, within, below)) l h)
+
+  -- patterns of keys, among them those of the first indexes
+  pub record AreFirstPatterns (n : ℕ) (patterns : List NumberPattern) : Type 0 where
+    pub all : AllBelow (λ i. Contains patterns (word_pattern f style (key_at i))) n
+    pub only : (p : NumberPattern) → Contains patterns p → (k : CompactKey) × (p ≡ word_pattern f style k)
+
+  pub no_patterns : AreFirstPatterns 0 []
+  no_patterns = record { all = λ i below. absurd (omega (arith, below)); only = λ p has. absurd (omega (arith, has.1)) }
+
+  pub pattern_again : (n : ℕ) (patterns : List NumberPattern) → AreFirstPatterns n patterns
+      → RepeatsAnother f style n → AreFirstPatterns (n + 1) patterns
+  pattern_again n patterns are (j, below, alike) = record {
+    all = one_more (λ i. Contains patterns (word_pattern f style (key_at i))) n are.all
+        (subst (Contains patterns) alike.pattern (are.all j below));
+    only = are.only;
+  }
+
+  pub pattern_more : (n : ℕ) (patterns : List NumberPattern) (p : NumberPattern) → AreFirstPatterns n patterns
+      → p ≡ word_pattern f style (key_at n) → AreFirstPatterns (n + 1) (patterns ++ p ∷ [])
+  pattern_more n patterns p are is = record {
+    all = one_more (λ i. Contains (patterns ++ p ∷ []) (word_pattern f style (key_at i))) n
+        (λ i below. contains_before patterns p _ (are.all i below))
+        (subst (Contains (patterns ++ p ∷ [])) is (contains_last patterns p));
+    only = λ q has. elim (of_either patterns p q has) [
+      | inl before ↦ are.only q before
+      | inr same ↦ (key_at n, same ∙ is)
+    ];
+  }
+
+  module _ (alone : f.outer ≡ OuterTexts.None) (exponents : HasCompactExponents f.notation) where
+    pub each_number : AllBelow HasNumberAt 1296 ↔ HasWordNumbers f style
+    each_number = (
+      λ all k. let i = index_of f style alone exponents k in sym i.2.has_number ∙ all i.0 i.1,
+      λ has i below. has (key_at i),
+    )
+
+    pub each_apart : AllBelow (IsIndexApart f style) 1296 ↔ AreWordsNamed f style
+    each_apart = (
+      λ all k l.
+          let i = index_of f style alone exponents k in
+          let j = index_of f style alone exponents l in
+          subst (AreToldApart f.style.symbols (word_pattern f style k)) j.2.pattern
+          (subst (λ p. AreToldApart f.style.symbols p (word_pattern f style (key_at j.0))) i.2.pattern
+          (all i.0 i.1 j.0 j.1)),
+      λ named i below j h. named (key_at i) (key_at j),
+    )
+
+    -- ---- A list of all patterns.
+
+    pub are_patterns : (n : ℕ) (patterns : List NumberPattern) → 1296 ≤ n → AreFirstPatterns n patterns
+        → AreWordPatterns f style patterns
+    are_patterns n patterns long are = record {
+      all = λ k.
+          let i = index_of f style alone exponents k in
+          subst (Contains patterns) i.2.pattern (are.all i.0 (omega (arith, long, i.1)));
+      only = are.only;
+    }
+
+  pub named_by_patterns : (patterns : List NumberPattern) → AreWordPatterns f style patterns
+      → AreNamed f.style.symbols patterns ↔ AreWordsNamed f style
+  named_by_patterns patterns are = (
+    λ named k l. named.pair (word_pattern f style k) (word_pattern f style l) (are.all k) (are.all l),
+    λ words. record {
+      pair = λ p q a b.
+          let k = are.only p a in
+          let l = are.only q b in
+          subst (λ x. AreToldApart f.style.symbols x q) (sym k.1)
+          (subst (AreToldApart f.style.symbols (word_pattern f style k.0)) (sym l.1) (words k.0 l.0));
+    },
+  )

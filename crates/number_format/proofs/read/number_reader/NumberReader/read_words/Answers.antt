@@ -1,0 +1,23 @@
+use Rattle.std.proofs.Common.{None, sym, subst}
+use Rattle.std.specs.Prelude.{Option}
+use Rattle.locale_data.specs.declared.compact.CompactStyle.{CompactStyle}
+use Rattle.number_format.specs.{declared.format.formatter.NumberFormatter.NumberFormatter, NumberReading.{NumberReader, IsReadBy}}
+use Rattle.number_format.proofs.read.number_reader.NumberReader.read_words.Goals as goal
+
+pub returns-in-Some : goal.returns-in-Some
+returns-in-Some g c =
+    let result = c.read.result in
+    let text = c.args.text.now in
+    subst (λ (r : NumberReader). IsReadBy g.D.DigitStore.L r.texts None r.words text result) c.self.view_is
+    (subst (λ (x : Option (NumberFormatter × CompactStyle)). IsReadBy g.D.DigitStore.L c.self.inside.reader None x text
+    result)
+    (sym c.in-Some.is) c.read.ensures)
+
+pub returns-in-None : goal.returns-in-None
+returns-in-None g c =
+    let result = c.read-in-None.result in
+    let text = c.args.text.now in
+    subst (λ (r : NumberReader). IsReadBy g.D.DigitStore.L r.texts None r.words text result) c.self.view_is
+    (subst (λ (x : Option (NumberFormatter × CompactStyle)). IsReadBy g.D.DigitStore.L c.self.inside.reader None x text
+    result)
+    (sym c.in-None.is) c.read-in-None.ensures)

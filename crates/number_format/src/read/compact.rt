@@ -1,0 +1,274 @@
+//! Reading of numbers in compact notation.
+ghost use Rattle.std.specs.Prelude.{◌≡◌, ◌↔◌, ◌≤ℤ◌, ◌-ℤ◌, pos, Ok, IsTrue};
+ghost use Rattle.decimal_format.specs.{Readable.IsReadable};
+ghost use Rattle.number_format.specs.{AffixedTexts.{AreNamed, shifted}, CompactReading.{word_pattern, magnitude_by, is_unit, HasCompactExponents, HasTextsOf, IsOwnPattern, IsOwnOr, IsReadShownInWords, IsReadInAnyWords, IsReadOrAny, IsReadInWords, IsTypedInWords, AreWordPatterns}, Scaled.IsOrdered};
+
+mod apart;
+mod keys;
+mod words;
+
+use crate::format::formatter::NumberFormatter;
+use crate::format::outer::OuterTexts;
+use crate::notation::{CompactExponents, Notation};
+use crate::read::affix_reader::{AffixReader, shifted};
+use crate::read::apart::{are_same, are_same_powers};
+use crate::read::compact::keys::CompactKey;
+use crate::read::pattern::NumberPattern;
+use decimal_format::internal::Alternative;
+use fixed_decimal::{DigitStore, ParseError, Signed, UnsignedOver};
+use locale_data::CompactStyle;
+use plural_rules::{PluralCategory, PluralOperands};
+use std::alloc::Global;
+use std::marker::Model;
+
+/// Reads the numbers that a formatter writes in compact notation.
+#[derive(Drop)]
+pub(crate) struct CompactReader {
+    formatter: NumberFormatter,
+    style: CompactStyle,
+    /// Between the texts of all magnitudes, categories and signs.
+    reader: AffixReader<'static>,
+}
+
+impl Model for CompactReader {
+    ghost use Rattle.locale_data.specs.declared.compact.CompactStyle.{CompactStyle};
+    ghost use Rattle.number_format.specs.{declared.format.formatter.NumberFormatter.NumberFormatter, CompactReading.IsWordReader};
+
+    ghost Value = { NumberFormatter × CompactStyle };
+
+    ghost view = { λ s. (s.formatter, s.style) };
+
+    ghost invariant = { λ s. IsWordReader s.formatter s.style s.reader };
+}
+
+fn magnitude_by<D: DigitStore>(value: &Signed<UnsignedOver<D>>, exponent: i32) -> i16
+    requires { (pos 0 ≤ℤ exponent) × (exponent ≤ℤ pos 255) }
+    ensures { result ≡ magnitude_by value.now.absolute exponent }
+{
+    if value.absolute.is_zero() {
+        return 0;
+    }
+    let first = value.absolute.nonzero_magnitude_start();
+    (first as i32 + exponent).min(32767) as i16
+}
+
+fn is_unit<D: DigitStore>(value: &Signed<UnsignedOver<D>>) -> bool
+    ensures { result ≡ is_unit value.now.absolute }
+{
+    let operands = PluralOperands::of_decimal(value);
+    operands.i() == Some(1) && operands.w() == 0
+}
+
+fn times<D: DigitStore>(
+    pattern: &NumberPattern,
+    value: Signed<UnsignedOver<D>>,
+) -> Result<Signed<UnsignedOver<D>>, ParseError>
+    requires { (pos 0 ≤ℤ pattern.now.exponent) × (pattern.now.exponent ≤ℤ pos 255) }
+    ensures { result ≡ shifted pattern.now.exponent (Ok value) }
+{
+    shifted(Ok(value), pattern.exponent as i16)
+}
+
+fn are_ordered(exponents: &CompactExponents) -> bool
+    ensures { IsTrue result ↔ IsOrdered (Notation.Compact exponents.now) }
+{
+    let rows = &exponents.rows;
+    for index in 0..16 {
+        if rows[index] as usize > index + 3 {
+            return false;
+        }
+        if rows[index] > rows[index + 1] {
+            return false;
+        }
+    }
+    rows[16] <= 19
+}
+
+/// Returns whether the exponents are those of compact patterns, and none is above its magnitude or above the next one.
+pub(crate) fn has_compact_exponents(notation: &Notation) -> bool
+    ensures { IsTrue result ↔ HasCompactExponents notation.now }
+{
+    match notation {
+        Notation::Compact(exponents) => are_ordered(exponents),
+        _ => false,
+    }
+}
+
+impl CompactReader {
+    /// Makes the reader of a formatter, by the texts of all its keys.
+    pub(crate) fn new(
+        formatter: NumberFormatter,
+        style: CompactStyle,
+        patterns: Vec<NumberPattern>,
+        shift: i16,
+    ) -> Self
+        requires readable { IsReadable formatter.style.symbols }
+        requires exponents { HasCompactExponents formatter.notation }
+        requires alone { formatter.outer ≡ OuterTexts.None }
+        requires patterns { AreWordPatterns formatter style patterns.items }
+        requires named { AreNamed formatter.style.symbols patterns.items }
+        requires shift { shift ≡ pos 0 -ℤ formatter.options.scale }
+        ensures { result ≡ (formatter, style) }
+    {
+        let symbols = formatter.style.symbols.copied();
+        let reader = AffixReader::new(symbols, patterns, formatter.rules, shift);
+        CompactReader {
+            formatter,
+            style,
+            reader,
+        }
+    }
+
+    fn has_texts(&self, pattern: &NumberPattern, key: CompactKey) -> bool
+        ensures texts { IsTrue result ↔ (pattern.now.affixes ≡ (word_pattern self.now.0 self.now.1 key).affixes) }
+        ensures alone { self.now.0.outer ≡ OuterTexts.None }
+    {
+        let own = self.formatter.word_texts(self.style, key);
+        are_same(pattern.affixes.texts(), own.texts())
+    }
+
+    fn has_texts_of(&self, pattern: &NumberPattern, key: CompactKey) -> bool
+        ensures { IsTrue result ↔ HasTextsOf self.now.0 self.now.1 pattern.now key }
+    {
+        let singular = CompactKey {
+            whole: PluralCategory::One,
+            ..key
+        };
+        let plural = CompactKey {
+            whole: PluralCategory::Other,
+            ..key
+        };
+        self.has_texts(pattern, plural) || self.has_texts(pattern, singular)
+    }
+
+    fn is_own<D: DigitStore>(
+        &self,
+        pattern: &NumberPattern,
+        value: &Signed<UnsignedOver<D>>,
+    ) -> bool
+        requires exponent { (pos 0 ≤ℤ pattern.now.exponent) × (pattern.now.exponent ≤ℤ pos 255) }
+        requires sign { pattern.now.sign ≡ value.now.sign }
+        ensures { IsTrue result ↔ IsOwnPattern self.now.0 self.now.1 value.now pattern.now }
+    {
+        let magnitude = magnitude_by(value, pattern.exponent);
+        let exponent = self.formatter.notation.exponent_at(magnitude);
+        if !are_same_powers(exponent, pattern.exponent) {
+            return false;
+        }
+        let key = CompactKey {
+            magnitude,
+            category: self.reader.category(value),
+            is_one: false,
+            whole: PluralCategory::Other,
+            sign: pattern.sign,
+        };
+        if self.has_texts_of(pattern, key) {
+            return true;
+        }
+        let singular = CompactKey {
+            is_one: true,
+            ..key
+        };
+        is_unit(value) && self.has_texts_of(pattern, singular)
+    }
+
+    fn own<D: DigitStore>(
+        &self,
+        pattern: &NumberPattern,
+        value: Signed<UnsignedOver<D>>,
+    ) -> Result<Signed<UnsignedOver<D>>, ParseError>
+        requires exponent { (pos 0 ≤ℤ pattern.now.exponent) × (pattern.now.exponent ≤ℤ pos 255) }
+        requires sign { pattern.now.sign ≡ value.sign }
+        ensures { IsOwnOr self.now.0 self.now.1 pattern.now value result }
+    {
+        if self.is_own(pattern, &value) {
+            return times(pattern, value);
+        }
+        Err(ParseError::Syntax)
+    }
+
+    fn read_any<D: DigitStore>(
+        &self,
+        alloc: Global,
+        text: &[u8],
+    ) -> Result<Signed<UnsignedOver<D>>, ParseError>
+        ensures { IsReadInAnyWords D.L self.now.0 self.now.1 text.now result }
+    {
+        match self.reader.read_pattern(alloc, text) {
+            Ok((value, pattern)) => times(pattern, value),
+            Err(error) => Err(error),
+        }
+    }
+
+    fn read_shown<D: DigitStore>(
+        &self,
+        alloc: Global,
+        text: &[u8],
+    ) -> Result<Signed<UnsignedOver<D>>, ParseError>
+        ensures { IsReadShownInWords D.L self.now.0 self.now.1 text.now result }
+    {
+        match self.reader.read_pattern(alloc, text) {
+            Ok((value, pattern)) => self.own(pattern, value),
+            Err(error) => Err(error),
+        }
+    }
+
+    fn read_typed<D: DigitStore>(
+        &self,
+        alloc: Global,
+        text: &[u8],
+    ) -> Result<Signed<UnsignedOver<D>>, ParseError>
+        ensures { IsReadOrAny D.L self.now.0 self.now.1 text.now result }
+    {
+        match self.read(alloc, text) {
+            Ok(value) => Ok(value),
+            Err(ParseError::Syntax) => self.reader.undo_scale(self.read_any(alloc, text)),
+            Err(ParseError::Limit) => Err(ParseError::Limit),
+            Err(ParseError::Memory) => Err(ParseError::Memory),
+        }
+    }
+
+    /// Reads a number between the texts of compact notation, in exactly one of the forms that a formatter writes.
+    ///
+    /// The texts are those that the formatter has for the number: of its magnitude and plural category. In `en`,
+    /// `1.25M` and `900` are accepted, and `1250K`, `0.5M`, `0K` and `1200` are `Syntax`.
+    ///
+    /// # Errors
+    ///
+    /// - `Syntax`: no decimal has this text, of any number of digits.
+    /// - `Limit`: there are more than 32,768 integer or fraction digits, or the power of ten or the shift leaves these
+    ///   limits.
+    /// - `Memory`: out of memory; possible only with more than `L` digits.
+    pub(crate) fn read<D: DigitStore>(
+        &self,
+        alloc: Global,
+        text: &[u8],
+    ) -> Result<Signed<UnsignedOver<D>>, ParseError>
+        ensures { IsReadInWords D.L self.now.0 self.now.1 text.now result }
+    {
+        self.reader.undo_scale(self.read_shown(alloc, text))
+    }
+
+    /// Reads a number as people type it: as [`read`](Self::read) does, or else between the texts of any magnitude and
+    /// category, as `1250K` and `0.5M`, or else without them by another reader.
+    ///
+    /// # Errors
+    ///
+    /// As for [`read`](Self::read).
+    pub(crate) fn read_lenient<D: DigitStore>(
+        &self,
+        plain: &AffixReader<'_>,
+        alloc: Global,
+        alternatives: &[Alternative<'_>],
+        text: &str,
+    ) -> Result<Signed<UnsignedOver<D>>, ParseError>
+        ensures { IsTypedInWords D.L self.now.0 self.now.1 plain.now alternatives.now text.now result }
+    {
+        match self.read_typed(alloc, text.as_bytes()) {
+            Ok(value) => Ok(value),
+            Err(ParseError::Syntax) => plain.read_lenient(alloc, alternatives, text),
+            Err(ParseError::Limit) => Err(ParseError::Limit),
+            Err(ParseError::Memory) => Err(ParseError::Memory),
+        }
+    }
+}

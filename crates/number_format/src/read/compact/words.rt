@@ -1,0 +1,165 @@
+//! The texts around numbers in compact notation.
+ghost use Rattle.std.specs.{Prelude.{◌≡◌, ◌↔◌, ◌<◌, ◌≤ℤ◌, pos, IsTrue, IfSome, IfOk}, Option.option_copied};
+ghost use Rattle.locale_data.specs.Compact.{pattern_for, patterns_in, compact_patterns, AreTexts};
+ghost use Rattle.number_format.specs.{CompactReading.{inner_at, word_pattern, key_at, is_of_one, is_of_other, is_percent, IsSameBefore, RepeatsAnother, HasCompactExponents, HasWordNumbers, AreWordPatterns}, NumberText.AreParts};
+
+use crate::format::affixes::NumberAffixes;
+use crate::format::formatter::NumberFormatter;
+use crate::format::outer::OuterTexts;
+use crate::format::short_affixes::ShortAffixes;
+use crate::options::NumberStyle;
+use crate::read::apart::are_same_powers;
+use crate::read::compact::keys::{CompactKey, KEY_COUNT, key_at};
+use crate::read::owned_affixes::OwnedAffixes;
+use crate::read::pattern::{NumberPattern, joined_texts};
+use locale_data::{CompactPattern, CompactPatterns, CompactStyle};
+use plural_rules::PluralCategory;
+use std::alloc::{AllocError, Global};
+
+fn are_same_rows(first: CompactPatterns, second: CompactPatterns) -> bool
+    ensures { IsTrue result → patterns_in first ≡ patterns_in second }
+{
+    if first.0.0 != second.0.0 {
+        return false;
+    }
+    first.0.1 == second.0.1
+}
+
+fn is_percent(style: NumberStyle) -> bool
+    ensures { result ≡ is_percent style }
+{
+    matches!(style, NumberStyle::Percent)
+}
+
+fn is_of_other(pattern: Option<&CompactPattern>) -> bool
+    ensures { result ≡ is_of_other (option_copied pattern.entry) }
+{
+    match pattern {
+        Some(pattern) => matches!(pattern.count, Some(PluralCategory::Other)),
+        None => true,
+    }
+}
+
+fn is_of_one(pattern: Option<&CompactPattern>) -> bool
+    ensures { result ≡ is_of_one (option_copied pattern.entry) }
+{
+    match pattern {
+        Some(pattern) => pattern.count.is_none(),
+        None => false,
+    }
+}
+
+impl NumberFormatter {
+    fn words_at(&self, style: CompactStyle, magnitude: i16) -> CompactPatterns
+        ensures { patterns_in result ≡ compact_patterns self.now.formats style magnitude }
+    {
+        self.formats.compact_patterns(style, magnitude)
+    }
+
+    fn word(&self, style: CompactStyle, key: CompactKey) -> Option<&'static CompactPattern>
+        ensures value { option_copied result
+            ≡ pattern_for key.category key.is_one (compact_patterns self.now.formats style key.magnitude) }
+        ensures texts { IfSome result (λ pattern. AreTexts pattern.now) }
+    {
+        self.words_at(style, key.magnitude)
+            .pattern(key.category, key.is_one)
+    }
+
+    fn inner_at(&self, style: CompactStyle, key: CompactKey) -> NumberAffixes<'_>
+        ensures { AreParts (inner_at self.now style key) result }
+    {
+        self.style.affixes(key.sign, self.word(style, key))
+    }
+
+    /// Returns the texts around a number.
+    pub(crate) fn word_texts(&self, style: CompactStyle, key: CompactKey) -> ShortAffixes<2550>
+        ensures { result ≡ (word_pattern self.now style key).affixes }
+    {
+        joined_texts(&self.outer_around(key.whole), &self.inner_at(style, key))
+    }
+
+    fn is_same_before(&self, style: CompactStyle, magnitude: i16) -> bool
+        requires { pos 0 ≤ℤ magnitude }
+        ensures { IsTrue result → IsSameBefore self.now style magnitude }
+    {
+        let before = magnitude - 1;
+        if !are_same_rows(
+            self.words_at(style, magnitude),
+            self.words_at(style, before),
+        ) {
+            return false;
+        }
+        let exponent = self.notation.exponent_at(magnitude);
+        are_same_powers(exponent, self.notation.exponent_at(before))
+    }
+
+    /// Returns whether the texts of a key are those of one with a smaller index.
+    pub(crate) fn repeats(&self, style: CompactStyle, index: usize) -> bool
+        requires alone { self.now.outer ≡ OuterTexts.None }
+        requires listed { index < 1296 }
+        ensures { IsTrue result → RepeatsAnother self.now style index }
+    {
+        if index % 6 >= 3 && !is_percent(self.options.style) {
+            return true;
+        }
+        let key = key_at(index);
+        if index >= 72 && self.is_same_before(style, key.magnitude) {
+            return true;
+        }
+        let pattern = self.word(style, key);
+        if index % 72 >= 6 && is_of_other(pattern) {
+            return true;
+        }
+        index % 12 >= 6 && !is_of_one(pattern)
+    }
+
+    /// Returns whether each text has a number: `mille` has none.
+    pub(crate) fn has_word_numbers(&self, style: CompactStyle) -> bool
+        requires alone { self.now.outer ≡ OuterTexts.None }
+        requires exponents { HasCompactExponents self.now.notation }
+        ensures { IsTrue result ↔ HasWordNumbers self.now style }
+    {
+        for index in 0..KEY_COUNT {
+            if !self.repeats(style, index) && !self.inner_at(style, key_at(index)).has_number {
+                return false;
+            }
+        }
+        true
+    }
+
+    fn word_pattern(
+        &self,
+        alloc: Global,
+        style: CompactStyle,
+        key: CompactKey,
+    ) -> Result<NumberPattern, AllocError>
+        ensures { IfOk result (λ p. p ≡ word_pattern self.now style key) }
+    {
+        let affixes = OwnedAffixes::copied(alloc, self.word_texts(style, key).texts())?;
+        Ok(NumberPattern {
+            affixes,
+            sign: key.sign,
+            category: None,
+            exponent: self.notation.exponent_at(key.magnitude),
+        })
+    }
+
+    /// Returns the texts around numbers, each of them once.
+    pub(crate) fn word_patterns(
+        &self,
+        alloc: Global,
+        style: CompactStyle,
+    ) -> Result<Vec<NumberPattern>, AllocError>
+        requires alone { self.now.outer ≡ OuterTexts.None }
+        requires exponents { HasCompactExponents self.now.notation }
+        ensures { IfOk result (λ patterns. AreWordPatterns self.now style patterns.items) }
+    {
+        let mut patterns = Vec::new(alloc);
+        for index in 0..KEY_COUNT {
+            if !self.repeats(style, index) {
+                patterns.push(self.word_pattern(alloc, style, key_at(index))?)?;
+            }
+        }
+        Ok(patterns)
+    }
+}
