@@ -191,7 +191,12 @@ def reads_back(made, tag, options, text):
         return value == LIMIT
     if not isinstance(value, str) or read(made, text, 1) != value:
         return False
-    return not value.strip("-+0.") or formatted(made, value) == text
+    if not value.strip("-+0."):
+        return True
+    again = formatted(made, value)
+    # In compact notation the space of a percent sign may be that of the number before it was rounded, as in Icelandic.
+    is_compact = made.formatter.options.notation in COMPACT
+    return again == text or is_compact and "".join(again.split()) == "".join(text.split())
 
 
 def has_text(made, number, options, tag, text, value):
@@ -395,7 +400,8 @@ def is_skeleton(skeleton, expected):
     """Whether a skeleton has options or an error."""
     found = reading(unescaped(skeleton))
     if expected[:1] in ("=", ">"):
-        return isinstance(found, dict) and found == reading(unescaped(expected[1:]))
+        # Of stems that the library does not have the rows of ICU say only that both texts have the same one.
+        return not str(found).startswith("syntax ") and found == reading(unescaped(expected[1:]))
     if expected.startswith(("syntax ", "unsupported ")):
         return found == unescaped(expected)
     return found == options_of_words(expected)
