@@ -151,8 +151,8 @@ pub fn formatted_exponents_are_unique()
         → (p : IsShownAs f v x) (q : IsShownAs f w y) → (x ≡ y) × (p.number.exponent ≡ q.number.exponent) }
 {}
 
-/// What a formatter writes of a value in compact notation is read back by its reader as the number that is shown times
-/// the power of ten, with the scale undone. The number is rounded and has the sign that is written.
+/// The reader of a formatter reads what it writes of a value in compact notation. It returns the number that is shown
+/// times the power of ten, with the scale undone. The number is rounded and has the sign that is written.
 pub fn formatted_words_read_back()
     ensures { (inline : ℕ) (f : NumberFormatter) (style : CompactStyle) (v u : Decimal) (text : List ℕ)
         (result : Result Decimal ParseError) → words_of f ≡ Some style → CanRead f → IsValue v.absolute

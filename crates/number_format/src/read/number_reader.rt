@@ -30,8 +30,8 @@ pub enum NumberReaderError {
     /// The place of the number or of its exponent is not certain:
     ///
     /// - A decimal separator without fraction digits or without integer digits is written.
-    /// - The notation is not standard, and a unit or the name of a currency is written, or numbers are rounded to
-    ///   multiples of an increment, or integer digits are cut off.
+    /// - A unit or the name of a currency is written in another notation than standard.
+    /// - In such a notation numbers are rounded to multiples of an increment, or integer digits are cut off.
     /// - The notation is scientific or engineering, and the sign of the exponent is never written; or the text before
     ///   the exponent begins with a digit or a separator, or one of these with it.
     /// - The notation is compact, and a word is written without a number: in French 1000 is `mille`.
@@ -42,8 +42,8 @@ pub enum NumberReaderError {
     Scale,
     /// The symbols are not readable: of two digits, separators or prefixes of signs one begins with the other.
     Symbols,
-    /// Neither the prefixes nor the suffixes of two texts can be told apart: of two signs, of two categories of a unit
-    /// or a name, or of two powers of ten.
+    /// Neither the prefixes nor the suffixes of two texts can be told apart. They are the texts of two signs, of two
+    /// categories of a unit or a name, or of two powers of ten.
     Affixes,
     /// Out of memory.
     Memory,
