@@ -66,8 +66,8 @@ typedef enum fd_status {
     FD_UNKNOWN_NUMBERING_SYSTEM = 18, /* no numbering system is known by the name in the options */
     FD_UNREADABLE_FORMAT = 19, /* the numbers of the options are not read: two have the same text, or a text of the unit
                                   or a word of compact notation has no number. With an exponent or in compact notation
-                                  also: a unit or a name of a currency is written, numbers are rounded to an increment,
-                                  integer digits are cut off, or the minus sign of the exponent is not written */
+                                  also: numbers are rounded to an increment, or integer digits are cut off. With an
+                                  exponent also: its minus sign is not written, or a unit or a name of a currency is */
     FD_DIGIT_OPTIONS = 20,     /* the numbers of digits are those of no format, by the fd_digit_reason at */
     FD_NO_SKELETON = 21,       /* no skeleton has these options */
     FD_FORMATTER = 22,         /* the bytes are no fd_formatter */
@@ -465,7 +465,7 @@ fd_result fd_format_number(const uint8_t *text, size_t count, const uint8_t *tag
  * it shows, with the scale undone: -1234.50 of "-1.234,50 €" by "de" and the currency EUR. It has all its grouping
  * separators, or none. If lenient is not 0, it may be as people type it: with other spaces and separators, and with
  * the symbol or the code of the currency, or the percent sign, on either side, or with nothing around it. In compact
- * notation "1.25M" is 1250000 by "en"; if lenient is not 0, "1250K" is too.
+ * notation "1.25M" is 1250000 by "en"; if lenient is not 0, "1250K" and "1.25 m" are too.
  *
  * The buffer is as after fd_run. It allocates.
  * Errors, the first that holds: of the options and the tag as fd_format_number; FD_UNREADABLE_FORMAT; FD_SYNTAX,

@@ -5,10 +5,10 @@
 
 LOCALES is what `fixdec_lines --locales` prints, CASES is 20,000 by default. The tags are those of LOCALES that node
 knows, and those of node itself: each tag of a language, a script and a region of tools/locales/symbols.tsv that node
-resolves to itself. A few have a private use that looks like a numbering system. One number in five is a range. In
-each notation but compact the texts of numbers that have neither a unit nor a name are read back, with an exponent only
-if they have no increment. Prints how often the two agree and how often each known difference occurs; each other
-difference, and each text that is not read back, is a line, with status 1. Needs the module, by `pip install ./python`, and node with this CLDR.
+resolves to itself. A few have a private use that looks like a numbering system. One number in five is a range. The
+texts of numbers are read back if there is a reader of the options. Prints how often the two agree and how often each
+known difference occurs; each other difference, and each text that is not read back, is a line, with status 1. Needs the
+module, by `pip install ./python`, and node with this CLDR.
 """
 import collections
 import json
@@ -134,16 +134,18 @@ def is_outer(options):
 
 
 def is_read_back(text, locale, number, options):
+    """Whether the text reads as a number that has this text, if there is a reader of the options."""
     # By two precisions a number that is rounded to 0 is shown otherwise than 0.
-    if "roundingPriority" in options or is_outer(options) or not isinstance(number, str):
+    if "roundingPriority" in options or not isinstance(number, str):
         return True
-    notation = options.get("notation", "standard")
-    if notation == "compact" or notation != "standard" and "roundingIncrement" in options:
-        return True
+    form = NumberFormat(locale, **keywords(options))
     try:
-        return Decimal.read(text, locale, **keywords(options)).format(locale, **keywords(options)) == text
-    except ValueError:
-        return False
+        value = form.read(text)
+    except ValueError as error:
+        return "no reader" in str(error)
+    again = form.format(value)
+    # In compact notation the plural of a unit or a percent sign depends on digits that are not shown.
+    return again == text or options.get("notation") == "compact" and form.read(again) == value
 
 
 def is_azerbaijani(tag):

@@ -166,19 +166,26 @@ def has_unreadable_words(tag, options):
     return len(set(texts)) < len(texts) or not all(map(has_number, texts))
 
 
+def has_name(own):
+    """Whether a unit or the name of a currency is written."""
+    return own.style == UNIT or own.style == CURRENCY and own.currency_display == NAME
+
+
 def may_be_unreadable(made, tag, options):
-    """Whether there may be no reader: of a unit or words without a number, of words with two meanings, and of numbers
-    that are not in standard notation with a name around them, with an increment, or with an exponent without a sign."""
+    """Whether there may be no reader: of a unit or words without a number, of words with two meanings, of numbers that
+    are not in standard notation with an increment, and of an exponent without a sign or with a name around it."""
     own = made.formatter.options
     if own.scale == -32768 or own.minimum_integer_digits == 0 or own.decimal_separator:
         return True
-    if own.notation == STANDARD:
-        return own.style == UNIT and has_unreadable_unit(tag, options)
-    if own.style == UNIT or own.style == CURRENCY and own.currency_display == NAME:
+    if own.style == UNIT and has_unreadable_unit(tag, options):
         return True
+    if own.notation == STANDARD:
+        return False
     if own.precision == BY_INCREMENT or own.maximum_integer_digits < 32768:
         return True
-    return has_unreadable_words(tag, options) if own.notation in COMPACT else own.exponent_sign == EXPONENT_NEVER
+    if own.notation in COMPACT:
+        return has_unreadable_words(tag, options)
+    return own.exponent_sign == EXPONENT_NEVER or has_name(own)
 
 
 def reads_back(made, tag, options, text):
@@ -194,10 +201,11 @@ def reads_back(made, tag, options, text):
     if not value.strip("-+0."):
         return True
     again = formatted(made, value)
-    # In compact notation the space of a percent sign may be that of the number before it was rounded, as in Icelandic.
+    # In compact notation a unit, a name and the space of a percent sign may be those of the number before it was
+    # rounded, as the space in Icelandic.
     own = made.formatter.options
-    is_compact_percent = own.style == PERCENT and own.notation in COMPACT
-    return again == text or is_compact_percent and "".join(again.split()) == "".join(text.split())
+    by_whole = own.notation in COMPACT and (own.style == PERCENT or has_name(own))
+    return again == text or by_whole and digits(again) == digits(text) and read(made, again, 0) == value
 
 
 def has_text(made, number, options, tag, text, value):

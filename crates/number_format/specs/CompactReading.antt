@@ -5,9 +5,9 @@ use Rattle.decimal_unsigned.specs.{Unsigned.Unsigned, declared.error.ParseError.
 use Rattle.fixed_decimal.specs.{Decimal.Decimal, declared.variations.Sign.Sign}
 use Rattle.plural_rules.specs.Operands as operands
 use Rattle.plural_rules.specs.declared.rules.PluralCategory.{PluralCategory}
-use Rattle.decimal_format.specs.{Formatted.absolute_text, Readable.IsReadable, Reading.IsRead, Symbols.affixes, declared.{grouping.GroupingStrategy.GroupingStrategy, reader.alternatives.Alternative.Alternative}}
+use Rattle.decimal_format.specs.{Formatted.absolute_text, Readable.IsReadable, Reading.IsRead, Symbols.affixes, declared.grouping.GroupingStrategy.GroupingStrategy}
 use Rattle.locale_data.specs.{Compact.{pattern_for, compact_patterns}, Plurals.IsCategoryAt, declared.{compact.CompactStyle.CompactStyle, tables.rows.compact.CompactPattern.CompactPattern}}
-use Rattle.number_format.specs.{declared.{format.{formatter.NumberFormatter.NumberFormatter, outer.OuterTexts.OuterTexts}, notation.Notation.Notation, options.NumberStyle.NumberStyle, read.{compact.keys.CompactKey.CompactKey, pattern.NumberPattern.NumberPattern}}, AffixedTexts.{AreNamed, AreSame, AreToldApart, Reader, between, shifted, IsWritten, IsWrittenBy, IsNumeral, IsShifted, IsOrElse, IsReadTyped}, NumberText.{around_by, outer_by}, PatternTexts.Around, Scaled.{exponent_at, IsOrdered}, TextParts.pieces_text}
+use Rattle.number_format.specs.{declared.{format.formatter.NumberFormatter.NumberFormatter, notation.Notation.Notation, read.{compact.keys.CompactKey.CompactKey, pattern.NumberPattern.NumberPattern}}, AffixedTexts.{AreNamed, AreSame, AreToldApart, Reader, between, shifted, IsWritten, IsWrittenBy, IsNumeral, IsShifted, IsOrElse}, NumberText.{around_by, outer_by}, PatternTexts.Around, Scaled.{exponent_at, IsOrdered}, TextParts.pieces_text}
 
 -- ---- The texts around numbers.
 
@@ -128,13 +128,6 @@ IsReadOrAny inline f style text result =
     (exact : Result Decimal ParseError) × IsReadInWords inline f style text exact
     × IsOrElse exact (IsShifted (pos 0 -ℤ f.options.scale) (IsReadInAnyWords inline f style text)) result
 
--- the result of reading a text as people type it: so, or else without words, by another reader
-abbrev pub IsTypedInWords : ℕ → NumberFormatter → CompactStyle → Reader → List Alternative → List ℕ
-    → Result Decimal ParseError → Type 0
-IsTypedInWords inline f style plain all text result =
-    (words : Result Decimal ParseError) × IsReadOrAny inline f style text words
-    × IsOrElse words (IsReadTyped inline plain all text) result
-
 -- ---- Private: used only in the contracts of private functions.
 
 abbrev pub category_at : ℕ → PluralCategory
@@ -153,17 +146,12 @@ sign_at (suc (suc other)) = Sign.Positive
 -- the keys in an order: by magnitude, from 2 to 19, category, ..
 abbrev pub key_at : ℕ → CompactKey
 key_at i = record {
-  magnitude = pos (i / 72 + 2);
-  category = category_at (i % 72 / 12);
-  is_one = i % 12 / 6 == 1;
-  whole = category_at (i % 6 / 3);
+  magnitude = pos (i / 216 + 2);
+  category = category_at (i % 216 / 36);
+  is_one = i % 36 / 18 == 1;
+  whole = category_at (i % 18 / 3);
   sign = sign_at (i % 3);
 }
-
--- what is around the whole text depends on the plural category
-abbrev pub is_percent : NumberStyle → Bool
-is_percent NumberStyle.Percent = true
-is_percent other = false
 
 -- the pattern is for the numbers of no other category
 abbrev pub is_for_other : Option PluralCategory → Bool
@@ -195,10 +183,20 @@ pub record AreAlike (f : NumberFormatter) (style : CompactStyle) (k l : CompactK
 abbrev pub RepeatsAnother : NumberFormatter → CompactStyle → ℕ → Type 0
 RepeatsAnother f style i = (j : ℕ) × (j < i) × AreAlike f style (key_at j) (key_at i)
 
+-- the keys with smaller indexes have the number
+abbrev pub HaveNumbersBelow : NumberFormatter → CompactStyle → ℕ → Type 0
+HaveNumbersBelow f style n = (i : ℕ) → i < n → (inner_at f style (key_at i)).has_number ≡ true
+
+-- patterns of keys, among them those of the keys with smaller indexes
+pub record AreFirstPatterns (f : NumberFormatter) (style : CompactStyle) (n : ℕ) (patterns : List NumberPattern)
+    : Type 0 where
+  pub all : (i : ℕ) → i < n → Contains patterns (word_pattern f style (key_at i))
+  pub only : (p : NumberPattern) → Contains patterns p → (k : CompactKey) × (p ≡ word_pattern f style k)
+
 -- the pattern with an index is told apart from each
 abbrev pub IsIndexApart : NumberFormatter → CompactStyle → ℕ → Type 0
 IsIndexApart f style i =
-    (j : ℕ) → j < 1296
+    (j : ℕ) → j < 3888
     → AreToldApart f.style.symbols (word_pattern f style (key_at i)) (word_pattern f style (key_at j))
 
 -- the pattern has the texts of the key, whichever category the whole number has
@@ -219,4 +217,3 @@ pub record IsWordReader (f : NumberFormatter) (style : CompactStyle) (r : Reader
   pub readable : IsReadable f.style.symbols
   pub named : AreNamed f.style.symbols r.patterns
   pub exponents : HasCompactExponents f.notation
-  pub alone : f.outer ≡ OuterTexts.None

@@ -18,3 +18,4 @@ pub mod AffixedExponents
 pub mod RangeText
 pub mod FormattedRanges
 pub mod TrimmedTexts
+pub mod TypedWords

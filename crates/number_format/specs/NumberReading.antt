@@ -5,7 +5,7 @@ use Rattle.fixed_decimal.specs.{Decimal.Decimal, declared.variations.Sign.Sign}
 use Rattle.plural_rules.specs.declared.rules.PluralCategory.{PluralCategory}
 use Rattle.decimal_format.specs.{Readable.IsReadable, Symbols.{Affixes, affixes}, declared.reader.alternatives.Alternative.Alternative}
 use Rattle.locale_data.specs.declared.compact.CompactStyle.{CompactStyle}
-use Rattle.number_format.specs.{declared.{digits.options.DigitOptions.DigitOptions, format.{outer.OuterTexts.OuterTexts, formatter.NumberFormatter.NumberFormatter}, options.{DecimalSeparatorDisplay.DecimalSeparatorDisplay, NumberNotation.NumberNotation, NumberStyle.NumberStyle}, read.{pattern.{NumberPattern.NumberPattern, TheConstants.{SIGN_KEYS, CATEGORY_KEYS}}, scientific.ExponentForm.ExponentForm, number_reader.{NumberReaderError.NumberReaderError, ParseMode.{ParseMode, TheVariants.{Strict, Lenient}}}}}, AffixedTexts.{AreNamed, Reader, IsReadExactly, IsReadTyped}, CompactReading.{HasCompactExponents, HasWordNumbers, AreWordsNamed, IsReadInWords, IsTypedInWords}, NumberText.{compact_style, needs_no_integer, outer_by, shown_number, shown_sign}, PatternTexts.{Around, around, affixes_for}, Scaled.{ScaledValue, HasNoIncrement}, ScientificReading.{exponent_form, CanReadExponent}, AffixedExponents.{IsReadWithExponent, IsTypedWithExponent}, TextParts.pieces_text}
+use Rattle.number_format.specs.{declared.{digits.options.DigitOptions.DigitOptions, format.{outer.OuterTexts.OuterTexts, formatter.NumberFormatter.NumberFormatter}, options.{DecimalSeparatorDisplay.DecimalSeparatorDisplay, NumberNotation.NumberNotation, NumberStyle.NumberStyle}, read.{pattern.{NumberPattern.NumberPattern, TheConstants.{SIGN_KEYS, CATEGORY_KEYS}}, scientific.ExponentForm.ExponentForm, number_reader.{NumberReaderError.NumberReaderError, ParseMode.{ParseMode, TheVariants.{Strict, Lenient}}}}}, AffixedTexts.{AreNamed, Reader, IsReadExactly, IsReadTyped}, CompactReading.{HasCompactExponents, HasWordNumbers, AreWordsNamed, IsReadInWords}, NumberText.{compact_style, needs_no_integer, outer_by, shown_number, shown_sign}, PatternTexts.{Around, around, affixes_for}, Scaled.{ScaledValue, HasNoIncrement}, ScientificReading.{exponent_form, CanReadExponent}, AffixedExponents.{IsReadWithExponent, IsTypedWithExponent}, TextParts.pieces_text, TypedWords.IsTypedInWords}
 
 -- ---- Exactly.
 
@@ -19,9 +19,10 @@ abbrev pub KeepsNotation : Option DigitOptions → Type 0
 KeepsNotation (Some o) = (o.integer.max ≡ 32768) × HasNoIncrement o.precision
 KeepsNotation None = ⊥
 
--- exponents are written in this form, and can be read
+-- exponents are written in this form, and can be read, and no unit and no name of a currency is written
 abbrev pub CanReadExponents : NumberFormatter → Option ExponentForm → Type 0
-CanReadExponents f (Some form) = KeepsNotation f.digits × CanReadExponent f.style.symbols form
+CanReadExponents f (Some form) =
+    (f.outer ≡ OuterTexts.None) × (KeepsNotation f.digits × CanReadExponent f.style.symbols form)
 CanReadExponents f None = ⊥
 
 -- the kind of compact patterns that are written, if there is one
@@ -33,15 +34,13 @@ abbrev pub CanReadWords : NumberFormatter → Option CompactStyle → Type 0
 CanReadWords f (Some style) = KeepsNotation f.digits × (HasCompactExponents f.notation × HasWordNumbers f style)
 CanReadWords f None = ⊥
 
--- exponents or words are written that can be read, and no unit and no name of a currency
-abbrev pub CanReadAlone : NumberFormatter → Type 0
-CanReadAlone f =
-    (f.outer ≡ OuterTexts.None)
-    × (CanReadExponents f (exponent_form f f.options.notation) ⊎ CanReadWords f (words_of f))
+-- exponents or words are written that can be read
+abbrev pub CanReadOther : NumberFormatter → Type 0
+CanReadOther f = CanReadExponents f (exponent_form f f.options.notation) ⊎ CanReadWords f (words_of f)
 
 -- no exponent and no words are written, or some that can be read
 abbrev pub CanReadNotation : NumberFormatter → Type 0
-CanReadNotation f = IsStandard f ⊎ CanReadAlone f
+CanReadNotation f = IsStandard f ⊎ CanReadOther f
 
 -- and no decimal separator without fraction digits or without integer digits is written
 abbrev pub HasPlainDigits : NumberFormatter → Type 0

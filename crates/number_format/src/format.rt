@@ -1,6 +1,6 @@
 //! The text of a number in a locale.
 pub(crate) mod affixes;
-mod compact;
+pub(crate) mod compact;
 pub(crate) mod currency;
 pub(crate) mod default_digits;
 mod exponent;
@@ -15,4 +15,4 @@ pub(crate) mod parts;
 pub(crate) mod short_affixes;
 mod style;
 pub(crate) mod text_part;
-mod trimmed;
+pub(crate) mod trimmed;

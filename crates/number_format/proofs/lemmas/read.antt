@@ -19,3 +19,4 @@ pub mod CompactPatterns
 pub mod CompactTexts
 pub mod CompactOwn
 pub mod CompactOrder
+pub mod TypedTexts

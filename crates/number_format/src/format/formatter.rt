@@ -97,6 +97,8 @@ impl NumberFormatter {
     /// let ids = FormatterIds::of("de", &options)?;
     /// NumberFormatter::at(&ids, &options) // the formatter of de
     /// ```
+    // Inlined, so that the formatter is not copied.
+    #[inline(always)]
     pub fn at(ids: &FormatterIds, options: &NumberOptions) -> Option<NumberFormatter>
         ensures some { IfSome result (IsFormatterAt ids.now options.now) }
         ensures none { IfNone result (LacksRows ids.now) }
@@ -308,8 +310,9 @@ impl NumberFormatter {
         }
     }
 
+    /// Returns whether what is around the whole text depends on the plural category.
     #[inline(always)]
-    fn has_categories(&self) -> bool
+    pub(crate) fn has_categories(&self) -> bool
         ensures { result ≡ has_categories self.now }
     {
         match (&self.outer, self.options.style) {

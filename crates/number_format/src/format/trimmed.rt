@@ -2,7 +2,7 @@
 ghost use Rattle.std.specs.{Prelude.{◌≡◌, ◌-◌, ◌≤◌, ◌++◌, [], ◌∷◌, length, take, drop, reverse, MatchOption}, Str.{chars, IsUtf8, encode_utf8_all}, Char.encode_utf8};
 ghost use Rattle.number_format.specs.TrimmedTexts.{is_trimmed, from_kept, trimmed_length, kept_length};
 
-fn is_trimmed(c: char) -> bool
+pub(crate) fn is_trimmed(c: char) -> bool
     ensures { result ≡ is_trimmed c }
 {
     matches!(
@@ -25,7 +25,7 @@ fn is_trimmed(c: char) -> bool
     )
 }
 
-fn split_first(text: &str) -> Option<(char, &str)>
+pub(crate) fn split_first(text: &str) -> Option<(char, &str)>
     ensures { MatchOption result (chars text.now ≡ []) (λ r. (chars text.now ≡ r.0 ∷ chars r.1.now)
         × (text.now ≡ encode_utf8 r.0 ++ r.1.now)) }
 {
@@ -34,7 +34,7 @@ fn split_first(text: &str) -> Option<(char, &str)>
     Some((c, chars.as_str()))
 }
 
-fn split_last(text: &str) -> Option<(&str, char)>
+pub(crate) fn split_last(text: &str) -> Option<(&str, char)>
     ensures { MatchOption result (chars text.now ≡ []) (λ r. (chars text.now ≡ chars r.0.now ++ r.1 ∷ [])
         × (text.now ≡ r.0.now ++ encode_utf8 r.1)) }
 {

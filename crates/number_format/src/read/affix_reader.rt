@@ -8,6 +8,7 @@ ghost use Rattle.plural_rules.specs.Operands.{plain};
 
 use crate::read::pattern::NumberPattern;
 use crate::read::scientific::ExponentForm;
+use crate::read::scientific::scan::cut;
 use decimal_format::DecimalSymbols;
 use decimal_format::internal::{
     Alternative, begins_with_digit, ends_with_digit, read_alternatives,
@@ -44,11 +45,21 @@ impl<'a> Model for AffixReader<'a> {
     ghost invariant = { λ s. IsReadable s.symbols × AreNamed s.symbols s.patterns.items };
 }
 
+fn cut_end<'t>(text: &'t [u8], code: &[u8]) -> Option<&'t [u8]>
+    ensures { MatchOption result ((front : List ℕ) → text.now ≢ front ++ code.now)
+        (λ front. text.now ≡ front.now ++ code.now) }
+{
+    if code.is_empty() {
+        return Some(text);
+    }
+    text.strip_suffix(code)
+}
+
 fn cut_affixes<'t>(text: &'t [u8], prefix: &[u8], suffix: &[u8]) -> Option<&'t [u8]>
     ensures { MatchOption result ((middle : List ℕ) → text.now ≢ prefix.now ++ (middle ++ suffix.now))
         (λ middle. text.now ≡ prefix.now ++ (middle.now ++ suffix.now)) }
 {
-    text.strip_prefix(prefix)?.strip_suffix(suffix)
+    cut_end(cut(text, prefix)?, suffix)
 }
 
 fn between<'t>(
@@ -62,7 +73,7 @@ fn between<'t>(
 {
     let affixes = pattern.affixes.texts();
     let middle = cut_affixes(text, affixes.prefix.as_bytes(), affixes.suffix.as_bytes())?;
-    if begins_with_digit(symbols, middle) && ends_with_digit(symbols, middle) {
+    if ends_with_digit(symbols, middle) && begins_with_digit(symbols, middle) {
         return Some(middle);
     }
     None
@@ -299,7 +310,8 @@ impl<'a> AffixReader<'a> {
         self.undo_scale(self.read_shown_exponent(form, alloc, text))
     }
 
-    fn read_typed<D: DigitStore>(
+    /// Reads the number that is shown as people type it: as [`read_lenient`](Self::read_lenient) before it multiplies.
+    pub(crate) fn read_typed<D: DigitStore>(
         &self,
         alloc: Global,
         alternatives: &[Alternative<'_>],

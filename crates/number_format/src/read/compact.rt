@@ -1,23 +1,24 @@
 //! Reading of numbers in compact notation.
 ghost use Rattle.std.specs.Prelude.{◌≡◌, ◌↔◌, ◌≤ℤ◌, ◌-ℤ◌, pos, Ok, IsTrue};
 ghost use Rattle.decimal_format.specs.{Readable.IsReadable};
-ghost use Rattle.number_format.specs.{AffixedTexts.{AreNamed, shifted}, CompactReading.{word_pattern, magnitude_by, is_unit, HasCompactExponents, HasTextsOf, IsOwnPattern, IsOwnOr, IsReadShownInWords, IsReadInAnyWords, IsReadOrAny, IsReadInWords, IsTypedInWords, AreWordPatterns}, Scaled.IsOrdered};
+ghost use Rattle.number_format.specs.{AffixedTexts.{AreNamed, shifted}, CompactReading.{word_pattern, magnitude_by, HasCompactExponents, HasTextsOf, IsOwnPattern, IsOwnOr, IsReadShownInWords, IsReadInAnyWords, IsReadOrAny, IsReadInWords, AreWordPatterns}, Scaled.IsOrdered, TypedWords.IsTypedInWords};
 
 mod apart;
 mod keys;
+mod typed;
 mod words;
 
+use crate::format::compact::{compact_power, is_unit, undivided_magnitude};
 use crate::format::formatter::NumberFormatter;
-use crate::format::outer::OuterTexts;
 use crate::notation::{CompactExponents, Notation};
 use crate::read::affix_reader::{AffixReader, shifted};
-use crate::read::apart::{are_same, are_same_powers};
-use crate::read::compact::keys::CompactKey;
+use crate::read::apart::are_same_powers;
+use crate::read::compact::keys::{CompactKey, category_at};
 use crate::read::pattern::NumberPattern;
 use decimal_format::internal::Alternative;
 use fixed_decimal::{DigitStore, ParseError, Signed, UnsignedOver};
 use locale_data::CompactStyle;
-use plural_rules::{PluralCategory, PluralOperands};
+use plural_rules::PluralCategory;
 use std::alloc::Global;
 use std::marker::Model;
 
@@ -48,15 +49,7 @@ fn magnitude_by<D: DigitStore>(value: &Signed<UnsignedOver<D>>, exponent: i32) -
     if value.absolute.is_zero() {
         return 0;
     }
-    let first = value.absolute.nonzero_magnitude_start();
-    (first as i32 + exponent).min(32767) as i16
-}
-
-fn is_unit<D: DigitStore>(value: &Signed<UnsignedOver<D>>) -> bool
-    ensures { result ≡ is_unit value.now.absolute }
-{
-    let operands = PluralOperands::of_decimal(value);
-    operands.i() == Some(1) && operands.w() == 0
+    undivided_magnitude(value, compact_power(exponent))
 }
 
 fn times<D: DigitStore>(
@@ -104,7 +97,6 @@ impl CompactReader {
     ) -> Self
         requires readable { IsReadable formatter.style.symbols }
         requires exponents { HasCompactExponents formatter.notation }
-        requires alone { formatter.outer ≡ OuterTexts.None }
         requires patterns { AreWordPatterns formatter style patterns.items }
         requires named { AreNamed formatter.style.symbols patterns.items }
         requires shift { shift ≡ pos 0 -ℤ formatter.options.scale }
@@ -120,25 +112,26 @@ impl CompactReader {
     }
 
     fn has_texts(&self, pattern: &NumberPattern, key: CompactKey) -> bool
-        ensures texts { IsTrue result ↔ (pattern.now.affixes ≡ (word_pattern self.now.0 self.now.1 key).affixes) }
-        ensures alone { self.now.0.outer ≡ OuterTexts.None }
+        ensures { IsTrue result ↔ (pattern.now.affixes ≡ (word_pattern self.now.0 self.now.1 key).affixes) }
     {
-        let own = self.formatter.word_texts(self.style, key);
-        are_same(pattern.affixes.texts(), own.texts())
+        let outer = self.formatter.outer_around(key.whole);
+        let inner = self.formatter.inner_at(self.style, key);
+        pattern.affixes.is_around(&outer, &inner)
     }
 
     fn has_texts_of(&self, pattern: &NumberPattern, key: CompactKey) -> bool
         ensures { IsTrue result ↔ HasTextsOf self.now.0 self.now.1 pattern.now key }
     {
-        let singular = CompactKey {
-            whole: PluralCategory::One,
-            ..key
-        };
-        let plural = CompactKey {
-            whole: PluralCategory::Other,
-            ..key
-        };
-        self.has_texts(pattern, plural) || self.has_texts(pattern, singular)
+        for index in 0..6 {
+            let own = CompactKey {
+                whole: category_at(index),
+                ..key
+            };
+            if self.has_texts(pattern, own) {
+                return true;
+            }
+        }
+        false
     }
 
     fn is_own<D: DigitStore>(
@@ -250,7 +243,7 @@ impl CompactReader {
     }
 
     /// Reads a number as people type it: as [`read`](Self::read) does, or else between the texts of any magnitude and
-    /// category, as `1250K` and `0.5M`, or else without them by another reader.
+    /// category, as `1250K` and `0.5M`, or else with a typed word, as `1.2 k`, or without one by another reader.
     ///
     /// # Errors
     ///
@@ -266,7 +259,10 @@ impl CompactReader {
     {
         match self.read_typed(alloc, text.as_bytes()) {
             Ok(value) => Ok(value),
-            Err(ParseError::Syntax) => plain.read_lenient(alloc, alternatives, text),
+            Err(ParseError::Syntax) => plain.undo_scale(
+                self.formatter
+                    .read_typed_word(self.style, plain, alloc, alternatives, text),
+            ),
             Err(ParseError::Limit) => Err(ParseError::Limit),
             Err(ParseError::Memory) => Err(ParseError::Memory),
         }

@@ -1,7 +1,7 @@
 //! Readers of what formatters write.
 ghost use Rattle.std.specs.Prelude.{◌≡◌, ◌↔◌, ◌≤◌, ◌⊎◌, IsTrue, Some, None, ◌∷◌, [], ◌++◌, ◌-ℤ◌, pos, length, take, map, flat_map, IfOk, IfErr, OnOk};
 ghost use Rattle.decimal_format.specs.Readable.{IsReadable};
-ghost use Rattle.number_format.specs.{AffixedTexts.AreNamed, NumberReading.{KeepsNotation, CanReadExponents, CanReadWords, CanReadAlone, CanReadNotation, HasPlainDigits, AreOwnWordsNamed, words_of, word_formatter, CanRead, CanUndo, CannotRead, percent_name, names_by, form, form_of, form_of_pattern, forms_of_name, patterns_of, number_reader_of, typed_forms, IsReadBy, IsReadStrictly, IsTypedBy, IsReadLeniently, IsReadInMode}, Scaled.HasNoIncrement, ScientificReading.exponent_form};
+ghost use Rattle.number_format.specs.{AffixedTexts.AreNamed, NumberReading.{KeepsNotation, CanReadExponents, CanReadWords, CanReadOther, CanReadNotation, HasPlainDigits, AreOwnWordsNamed, words_of, word_formatter, CanRead, CanUndo, CannotRead, percent_name, names_by, form, form_of, form_of_pattern, forms_of_name, patterns_of, number_reader_of, typed_forms, IsReadBy, IsReadStrictly, IsTypedBy, IsReadLeniently, IsReadInMode}, Scaled.HasNoIncrement, ScientificReading.exponent_form};
 
 use crate::digits::options::DigitOptions;
 use crate::digits::precision::Precision;
@@ -30,10 +30,11 @@ pub enum NumberReaderError {
     /// The place of the number or of its exponent is not certain:
     ///
     /// - A decimal separator without fraction digits or without integer digits is written.
-    /// - A unit or the name of a currency is written in another notation than standard.
-    /// - In such a notation numbers are rounded to multiples of an increment, or integer digits are cut off.
-    /// - The notation is scientific or engineering, and the sign of the exponent is never written; or the text before
-    ///   the exponent begins with a digit or a separator, or one of these with it.
+    /// - In another notation than standard numbers are rounded to multiples of an increment, or integer digits are cut
+    ///   off.
+    /// - The notation is scientific or engineering, and a unit or the name of a currency is written; or the sign of the
+    ///   exponent is never written; or the text before the exponent begins with a digit or a separator, or one of these
+    ///   with it.
     /// - The notation is compact, and a word is written without a number: in French 1000 is `mille`.
     Notation,
     /// The unit has a text without a number for numbers of a plural category: in Arabic `يومان` is two days.
@@ -177,13 +178,21 @@ fn keeps_notation(digits: &Option<DigitOptions>) -> bool
     }
 }
 
+fn is_alone(outer: &OuterTexts) -> bool
+    ensures { IsTrue result ↔ (outer.now ≡ OuterTexts.None) }
+{
+    matches!(outer, OuterTexts::None)
+}
+
 fn can_read_exponents(formatter: &NumberFormatter) -> bool
     ensures { IsTrue result ↔ CanReadExponents formatter.now
         (exponent_form formatter.now formatter.now.options.notation) }
 {
     match ExponentForm::of(formatter) {
         Some(form) => {
-            keeps_notation(&formatter.digits) && form.can_read(&formatter.style.symbols)
+            is_alone(&formatter.outer)
+                && keeps_notation(&formatter.digits)
+                && form.can_read(&formatter.style.symbols)
         }
         None => false,
     }
@@ -196,7 +205,6 @@ fn is_standard(notation: NumberNotation) -> bool
 }
 
 fn can_read_words_of(formatter: &NumberFormatter, style: CompactStyle) -> bool
-    requires { formatter.now.outer ≡ OuterTexts.None }
     ensures { IsTrue result ↔ CanReadWords formatter.now (Some style) }
 {
     if !keeps_notation(&formatter.digits) {
@@ -209,7 +217,6 @@ fn can_read_words_of(formatter: &NumberFormatter, style: CompactStyle) -> bool
 }
 
 fn can_read_words(formatter: &NumberFormatter) -> bool
-    requires { formatter.now.outer ≡ OuterTexts.None }
     ensures { IsTrue result ↔ CanReadWords formatter.now (words_of formatter.now) }
 {
     match formatter.options.compact_style() {
@@ -219,27 +226,15 @@ fn can_read_words(formatter: &NumberFormatter) -> bool
 }
 
 fn can_read_other(formatter: &NumberFormatter) -> bool
-    requires { formatter.now.outer ≡ OuterTexts.None }
-    ensures { IsTrue result
-        ↔ (CanReadExponents formatter.now (exponent_form formatter.now formatter.now.options.notation)
-        ⊎ CanReadWords formatter.now (words_of formatter.now)) }
+    ensures { IsTrue result ↔ CanReadOther formatter.now }
 {
     can_read_exponents(formatter) || can_read_words(formatter)
-}
-
-fn can_read_alone(formatter: &NumberFormatter) -> bool
-    ensures { IsTrue result ↔ CanReadAlone formatter.now }
-{
-    match formatter.outer {
-        OuterTexts::None => can_read_other(formatter),
-        OuterTexts::Units(_) | OuterTexts::Names(_) => false,
-    }
 }
 
 fn can_read_notation(formatter: &NumberFormatter) -> bool
     ensures { IsTrue result ↔ CanReadNotation formatter.now }
 {
-    is_standard(formatter.options.notation) || can_read_alone(formatter)
+    is_standard(formatter.options.notation) || can_read_other(formatter)
 }
 
 fn has_plain_digits(formatter: &NumberFormatter) -> bool
@@ -445,7 +440,9 @@ impl NumberReader {
     /// sign and its least number of digits: `1.2E3` is 1200, and `12E3`, `1E03` and `1200` are `Syntax`.
     ///
     /// In compact notation it has the words of the number's magnitude and plural category: in `en`, `1.25M` is 1250000,
-    /// and `1250K`, `0.5M` and `1200` are `Syntax`. The value is the significand times the power of ten.
+    /// and `1250K`, `0.5M` and `1200` are `Syntax`. The value is the significand times the power of ten. The text of a
+    /// unit, of the name of a currency or of percent may be that of any plural category. It depends on the number
+    /// before it was rounded, which the text does not show: `1.2K day` is read too.
     ///
     /// # Errors
     ///
@@ -500,11 +497,17 @@ impl NumberReader {
     /// Reads a number as people type it, and undoes the scale.
     ///
     /// A text that [`read`](Self::read) accepts has the same value. In compact notation, else the words may be those of
-    /// any magnitude and category: `1250K` is 1250000, and `0.5M` is 0500000. Else the number has no exponent, and is
-    /// as [`DecimalSymbols::read_lenient`](decimal_format::DecimalSymbols::read_lenient) accepts it. Around it may be
-    /// what the formatter writes, of any plural category, nothing, or parentheses for a minus sign; or, on either side
-    /// and with a space or without, the symbol, the narrow symbol or the code of the currency, or the percent sign,
-    /// also after a sign. Two signs, two symbols and another currency are `Syntax`.
+    /// any magnitude and category: `1250K` is 1250000, and `0.5M` is 0500000. Else, if no unit and no name of a
+    /// currency is written, a word after the last digit is taken out, and white space after it: `1.2 k` is 1200. White
+    /// space, direction marks and periods in the word do not matter, nor does the case of each letter. If words of
+    /// different powers of ten fit, or a word and none, the text is `Syntax`; so is one of which more than 255 bytes
+    /// are left.
+    ///
+    /// Else, or without the word, the number has no exponent, and is as
+    /// [`DecimalSymbols::read_lenient`](decimal_format::DecimalSymbols::read_lenient) accepts it. Around it may be what
+    /// the formatter writes, of any plural category, nothing, or parentheses for a minus sign; or, on either side and
+    /// with a space or without, the symbol, the narrow symbol or the code of the currency, or the percent sign, also
+    /// after a sign. Two signs, two symbols and another currency are `Syntax`.
     ///
     /// # Errors
     ///

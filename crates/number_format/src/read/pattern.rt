@@ -154,7 +154,11 @@ impl NumberFormatter {
     fn pattern(&self, alloc: Global, key: PatternKey) -> Result<NumberPattern, AllocError>
         ensures { IfOk result (λ p. p ≡ pattern_at self.now key) }
     {
-        let affixes = OwnedAffixes::copied(alloc, self.pattern_texts(key).texts())?;
+        let affixes = OwnedAffixes::around(
+            alloc,
+            &self.outer_at(key.0),
+            &self.style.affixes(key.1, None),
+        )?;
         Ok(NumberPattern {
             affixes,
             sign: key.1,

@@ -7,7 +7,7 @@ ghost use Rattle.number_format.specs.{AffixedTexts.shifted, ScientificReading.{e
 
 mod apart;
 mod exponent;
-mod scan;
+pub(crate) mod scan;
 
 use crate::format::formatter::NumberFormatter;
 use crate::options::{ExponentOptions, ExponentSign, NumberNotation};

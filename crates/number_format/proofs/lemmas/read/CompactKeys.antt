@@ -4,9 +4,10 @@ use Rattle.std.specs.{Prelude.{find, Option, Some, None, is_none, slice_get, sli
 use Rattle.fixed_decimal.specs.declared.variations.Sign.{Sign}
 use Rattle.plural_rules.specs.declared.rules.PluralCategory.{PluralCategory}
 use Rattle.decimal_format.specs.Symbols.{affixes}
-use Rattle.locale_data.specs.{declared.{tables.{rows.{compact.{CompactPattern.CompactPattern, CompactRun.CompactRun, PercentUnit.PercentUnit}}, compact.TheConstants.{COMPACT_RUNS, COMPACT_SETS, COMPACT_PATTERNS, PERCENT_UNITS}}, compact.CompactStyle.CompactStyle, number_formats.NumberFormats.NumberFormats}, Compact.{compact_patterns, count_code, pattern_for, pattern_with, rows_of, run_at}, Rows.part}
+use Rattle.locale_data.specs.{declared.{tables.{rows.{compact.{CompactPattern.CompactPattern, CompactRun.CompactRun}}, compact.TheConstants.{COMPACT_RUNS, COMPACT_SETS, COMPACT_PATTERNS}}, compact.CompactStyle.CompactStyle, number_formats.NumberFormats.NumberFormats}, Compact.{compact_patterns, count_code, pattern_for, pattern_with, rows_of, run_at}, Rows.part}
 use Rattle.locale_data.proofs.lemmas.tables.{EachRow.passes, TableTexts.contains-part}
-use Rattle.number_format.specs.{declared.{format.{outer.OuterTexts.OuterTexts, formatter.NumberFormatter.NumberFormatter, text_part.PartKind.PartKind}, notation.{CompactExponents.CompactExponents, Notation.Notation}, options.NumberStyle.NumberStyle, read.{compact.keys.CompactKey.CompactKey, pattern.NumberPattern.NumberPattern}}, CompactReading.{inner_at, key_at, category_at, sign_at, is_for_other, is_of_one, is_of_other, is_percent, AreAlike, HasCompactExponents, IsSameBefore, RepeatsAnother}, NumberText.{around_by, around_texts, outer_by, outer_texts, percent_texts}, NumberReading.words_of, PatternTexts.Around, Scaled.{compact_exponent, exponent_at}, TextParts.pieces_text}
+use Rattle.number_format.specs.{declared.{format.formatter.NumberFormatter.NumberFormatter, notation.{CompactExponents.CompactExponents, Notation.Notation}, read.{compact.keys.CompactKey.CompactKey, pattern.NumberPattern.NumberPattern}}, CompactReading.{inner_at, key_at, category_at, sign_at, is_for_other, is_of_one, is_of_other, AreAlike, HasCompactExponents, IsSameBefore, RepeatsAnother}, NumberReading.words_of, NumberText.{around_by, has_categories, outer_by}, PatternTexts.Around, Scaled.{compact_exponent, exponent_at}, TextParts.pieces_text}
+use Rattle.number_format.proofs.lemmas.format.OuterChoices.{same_outer}
 
 -- ---- Magnitudes.
 
@@ -56,58 +57,6 @@ same_exponent_at Notation.Standard has m = absurd has
 same_exponent_at Notation.Scientific has m = absurd has
 same_exponent_at Notation.Engineering has m = absurd has
 
--- ---- What is around the whole text.
-
-abbrev pub whole_code : PluralCategory → ℕ
-whole_code PluralCategory.One = 1
-whole_code _ = 0
-
-same_percent : (unit : Option PercentUnit) (c : PluralCategory)
-    → percent_texts unit c ≡ percent_texts unit (category_at (whole_code c))
-same_percent None c = refl
-same_percent (Some unit) PluralCategory.Other = refl
-same_percent (Some unit) PluralCategory.One = refl
-same_percent (Some unit) PluralCategory.Two = refl
-same_percent (Some unit) PluralCategory.Few = refl
-same_percent (Some unit) PluralCategory.Many = refl
-same_percent (Some unit) PluralCategory.Zero = refl
-
-same_texts : (formats : NumberFormats) (words : Option CompactStyle) (style : NumberStyle) (c : PluralCategory)
-    → outer_texts formats OuterTexts.None words style c
-    ≡ outer_texts formats OuterTexts.None words style (category_at (whole_code c))
-same_texts formats None style c = refl
-same_texts formats (Some w) NumberStyle.Percent c =
-    ap (around_texts PartKind.Unit) (same_percent (slice_get PERCENT_UNITS formats.unit) c)
-same_texts formats (Some w) NumberStyle.Permille c = refl
-same_texts formats (Some w) NumberStyle.Decimal c = refl
-same_texts formats (Some w) (NumberStyle.Currency x) c = refl
-same_texts formats (Some w) (NumberStyle.Unit x) c = refl
-
-pub same_outer : (f : NumberFormatter) → f.outer ≡ OuterTexts.None → (c : PluralCategory)
-    → outer_by f c ≡ outer_by f (category_at (whole_code c))
-same_outer f alone c =
-    (λ i. outer_texts f.formats (alone i) (words_of f) f.options.style c)
-    ∙ same_texts f.formats (words_of f) f.options.style c
-    ∙ (λ i. outer_texts f.formats (sym alone i) (words_of f) f.options.style (category_at (whole_code c)))
-
--- without a percent sign it is the same for each category
-plain_texts : (formats : NumberFormats) (words : Option CompactStyle) (style : NumberStyle) → is_percent style ≡ false
-    → (c d : PluralCategory)
-    → outer_texts formats OuterTexts.None words style c ≡ outer_texts formats OuterTexts.None words style d
-plain_texts formats None style plain c d = refl
-plain_texts formats (Some w) NumberStyle.Percent plain c d = absurd (cc)
-plain_texts formats (Some w) NumberStyle.Permille plain c d = refl
-plain_texts formats (Some w) NumberStyle.Decimal plain c d = refl
-plain_texts formats (Some w) (NumberStyle.Currency x) plain c d = refl
-plain_texts formats (Some w) (NumberStyle.Unit x) plain c d = refl
-
-plain_outer : (f : NumberFormatter) → f.outer ≡ OuterTexts.None → is_percent f.options.style ≡ false
-    → (c d : PluralCategory) → outer_by f c ≡ outer_by f d
-plain_outer f alone plain c d =
-    (λ i. outer_texts f.formats (alone i) (words_of f) f.options.style c)
-    ∙ plain_texts f.formats (words_of f) f.options.style plain c d
-    ∙ (λ i. outer_texts f.formats (sym alone i) (words_of f) f.options.style d)
-
 -- ---- Keys.
 
 abbrev pattern_by : Around → Around → Sign → ℤ → NumberPattern
@@ -132,7 +81,7 @@ pub alike_twice : (f : NumberFormatter) (style : CompactStyle) (k l m : CompactK
 alike_twice f style k l m a b =
     record { pattern = a.pattern ∙ b.pattern; has_number = a.has_number ∙ b.has_number }
 
-abbrev code : PluralCategory → ℕ
+abbrev pub code : PluralCategory → ℕ
 code PluralCategory.Other = 0
 code PluralCategory.One = 1
 code PluralCategory.Two = 2
@@ -140,21 +89,13 @@ code PluralCategory.Few = 3
 code PluralCategory.Many = 4
 code PluralCategory.Zero = 5
 
-coded : (c : PluralCategory) → (code c < 6) × (category_at (code c) ≡ c)
+pub coded : (c : PluralCategory) → (code c < 6) × (category_at (code c) ≡ c)
 coded PluralCategory.Other = (omega arith, refl)
 coded PluralCategory.One = (omega arith, refl)
 coded PluralCategory.Two = (omega arith, refl)
 coded PluralCategory.Few = (omega arith, refl)
 coded PluralCategory.Many = (omega arith, refl)
 coded PluralCategory.Zero = (omega arith, refl)
-
-whole_below : (c : PluralCategory) → whole_code c < 2
-whole_below PluralCategory.Other = omega arith
-whole_below PluralCategory.One = omega arith
-whole_below PluralCategory.Two = omega arith
-whole_below PluralCategory.Few = omega arith
-whole_below PluralCategory.Many = omega arith
-whole_below PluralCategory.Zero = omega arith
 
 abbrev sign_code : Sign → ℕ
 sign_code Sign.None = 0
@@ -175,15 +116,15 @@ one_coded false = (omega arith, refl)
 
 -- the digits of an index
 pub record AreDigitsOf (i a b o w s : ℕ) : Type 0 where
-  pub below : i < 1296
-  pub magnitude : i / 72 ≡ a
-  pub category : i % 72 / 12 ≡ b
-  pub one : i % 12 / 6 ≡ o
-  pub whole : i % 6 / 3 ≡ w
+  pub below : i < 3888
+  pub magnitude : i / 216 ≡ a
+  pub category : i % 216 / 36 ≡ b
+  pub one : i % 36 / 18 ≡ o
+  pub whole : i % 18 / 3 ≡ w
   pub sign : i % 3 ≡ s
 
-digits_of : (a b o w s : ℕ) → a < 18 → b < 6 → o < 2 → w < 2 → s < 3
-    → AreDigitsOf (a * 72 + b * 12 + o * 6 + w * 3 + s) a b o w s
+digits_of : (a b o w s : ℕ) → a < 18 → b < 6 → o < 2 → w < 6 → s < 3
+    → AreDigitsOf (a * 216 + b * 36 + o * 18 + w * 3 + s) a b o w s
 digits_of a b o w s ha hb ho hw hs = record {
   below = omega (arith, ha, hb, ho, hw, hs);
   magnitude = omega (arith, ha, hb, ho, hw, hs);
@@ -194,19 +135,20 @@ digits_of a b o w s ha hb ho hw hs = record {
 }
 
 -- each key has the texts of one with an index
-pub index_of : (f : NumberFormatter) (style : CompactStyle) → f.outer ≡ OuterTexts.None
-    → HasCompactExponents f.notation → (k : CompactKey)
-    → (i : ℕ) × (i < 1296) × AreAlike f style (key_at i) k
-index_of f style alone exponents k =
+pub index_of : (f : NumberFormatter) (style : CompactStyle) → HasCompactExponents f.notation
+    → (k : CompactKey)
+    → (i : ℕ) × (i < 3888) × AreAlike f style (key_at i) k
+index_of f style exponents k =
     let m = clamped k.magnitude in
     let a = unsigned_abs (m -ℤ pos 2) in
     let c = coded k.category in
     let o = one_coded k.is_one in
+    let w = coded k.whole in
     let s = sign_coded k.sign in
-    let i = a * 72 + code k.category * 12 + one_code k.is_one * 6 + whole_code k.whole * 3 + sign_code k.sign in
-    let is = digits_of a (code k.category) (one_code k.is_one) (whole_code k.whole) (sign_code k.sign)
-    (omega (arith, ints, clamps)) c.0 o.0 (whole_below k.whole) s.0 in
-    let magnitude : pos (i / 72 + 2) ≡ m = omega (arith, ints, clamps, is.magnitude) in
+    let i = a * 216 + code k.category * 36 + one_code k.is_one * 18 + code k.whole * 3 + sign_code k.sign in
+    let is = digits_of a (code k.category) (one_code k.is_one) (code k.whole) (sign_code k.sign)
+    (omega (arith, ints, clamps)) c.0 o.0 w.0 s.0 in
+    let magnitude : pos (i / 216 + 2) ≡ m = omega (arith, ints, clamps, is.magnitude) in
     let category = ap category_at is.category ∙ c.1 in
     let one = ap (λ n. n == 1) is.one ∙ o.1 in
     let sign = ap sign_at is.sign ∙ s.1 in (
@@ -217,7 +159,7 @@ index_of f style alone exponents k =
           (pattern_for (category j) (one j) (compact_patterns f.formats style (magnitude j))))
           ∙ ap (λ ps. around_by f.style k.sign (pattern_for k.category k.is_one ps))
           (sym (same_patterns f.formats style k.magnitude)))
-          (ap (λ n. outer_by f (category_at n)) is.whole ∙ sym (same_outer f alone k.whole)) sign
+          (ap (λ n. outer_by f (category_at n)) is.whole ∙ ap (outer_by f) w.1) sign
           (ap (exponent_at f.notation) magnitude ∙ sym (same_exponent_at f.notation exponents k.magnitude)),
     )
 
@@ -306,37 +248,37 @@ same_as_category ps c is = go _ (λ p e. counts_one p.count (counted None ps p e
 -- ---- Keys that repeat another.
 
 module _ (f : NumberFormatter) (style : CompactStyle) (i : ℕ) where
-  pub repeats_magnitude : 72 ≤ i → IsSameBefore f style (key_at i).magnitude → RepeatsAnother f style i
-  repeats_magnitude from same =
-      let j = i - 72 in
+  pub same_in_row : 216 ≤ i → IsSameBefore f style (key_at i).magnitude → AreAlike f style (key_at (i - 216)) (key_at i)
+  same_in_row from same =
+      let j = i - 216 in
       let k = key_at i in
-      let magnitude : pos (j / 72 + 2) ≡ (k.magnitude -ℤ pos 1) = omega (arith, ints, from) in
-      let category : j % 72 / 12 ≡ i % 72 / 12 = omega (arith, from) in
-      let one : j % 12 / 6 ≡ i % 12 / 6 = omega (arith, from) in
-      let whole : j % 6 / 3 ≡ i % 6 / 3 = omega (arith, from) in
-      let sign : j % 3 ≡ i % 3 = omega (arith, from) in (
-        j,
-        omega (arith, from),
-        alike_by f style (key_at j) k
-            ((λ n. around_by f.style (sign_at (sign n))
-            (pattern_for (category_at (category n)) (one n == 1) (compact_patterns f.formats style (magnitude n))))
-            ∙ ap (λ ps. around_by f.style k.sign (pattern_for k.category k.is_one ps)) (sym same.0))
-            (ap (λ n. outer_by f (category_at n)) whole) (ap sign_at sign)
-            (ap (exponent_at f.notation) magnitude ∙ sym same.1),
-      )
+      let magnitude : pos (j / 216 + 2) ≡ (k.magnitude -ℤ pos 1) = omega (arith, ints, from) in
+      let category : j % 216 / 36 ≡ i % 216 / 36 = omega (arith, from) in
+      let one : j % 36 / 18 ≡ i % 36 / 18 = omega (arith, from) in
+      let whole : j % 18 / 3 ≡ i % 18 / 3 = omega (arith, from) in
+      let sign : j % 3 ≡ i % 3 = omega (arith, from) in
+      alike_by f style (key_at j) k
+      ((λ n. around_by f.style (sign_at (sign n))
+      (pattern_for (category_at (category n)) (one n == 1) (compact_patterns f.formats style (magnitude n))))
+      ∙ ap (λ ps. around_by f.style k.sign (pattern_for k.category k.is_one ps)) (sym same.0))
+      (ap (λ n. outer_by f (category_at n)) whole) (ap sign_at sign)
+      (ap (exponent_at f.notation) magnitude ∙ sym same.1)
 
-  pub repeats_other : 6 ≤ i % 72
+  pub repeats_magnitude : 216 ≤ i → IsSameBefore f style (key_at i).magnitude → RepeatsAnother f style i
+  repeats_magnitude from same = (i - 216, omega (arith, from), same_in_row from same)
+
+  pub repeats_other : 18 ≤ i % 216
       → is_of_other (pattern_for (key_at i).category (key_at i).is_one
       (compact_patterns f.formats style (key_at i).magnitude)) ≡ true
       → RepeatsAnother f style i
   repeats_other from is =
-      let j = i / 72 * 72 + i % 6 in
+      let j = i / 216 * 216 + i % 18 in
       let k = key_at i in
       let ps = compact_patterns f.formats style k.magnitude in
-      let magnitude : j / 72 ≡ i / 72 = omega arith in
-      let category : j % 72 / 12 ≡ 0 = omega arith in
-      let one : j % 12 / 6 ≡ 0 = omega arith in
-      let whole : j % 6 / 3 ≡ i % 6 / 3 = omega arith in
+      let magnitude : j / 216 ≡ i / 216 = omega arith in
+      let category : j % 216 / 36 ≡ 0 = omega arith in
+      let one : j % 36 / 18 ≡ 0 = omega arith in
+      let whole : j % 18 / 3 ≡ i % 18 / 3 = omega arith in
       let sign : j % 3 ≡ i % 3 = omega arith in (
         j,
         omega (arith, from),
@@ -348,20 +290,20 @@ module _ (f : NumberFormatter) (style : CompactStyle) (i : ℕ) where
             (ap (λ n. exponent_at f.notation (pos (n + 2))) magnitude),
       )
 
-  pub repeats_one : 6 ≤ i % 12
+  pub repeats_one : 18 ≤ i % 36
       → is_of_one (pattern_for (key_at i).category (key_at i).is_one
       (compact_patterns f.formats style (key_at i).magnitude)) ≡ false
       → RepeatsAnother f style i
   repeats_one from is =
-      let j = i - 6 in
+      let j = i - 18 in
       let k = key_at i in
       let ps = compact_patterns f.formats style k.magnitude in
-      let magnitude : j / 72 ≡ i / 72 = omega (arith, from) in
-      let category : j % 72 / 12 ≡ i % 72 / 12 = omega (arith, from) in
-      let one : j % 12 / 6 ≡ 0 = omega (arith, from) in
-      let whole : j % 6 / 3 ≡ i % 6 / 3 = omega (arith, from) in
+      let magnitude : j / 216 ≡ i / 216 = omega (arith, from) in
+      let category : j % 216 / 36 ≡ i % 216 / 36 = omega (arith, from) in
+      let one : j % 36 / 18 ≡ 0 = omega (arith, from) in
+      let whole : j % 18 / 3 ≡ i % 18 / 3 = omega (arith, from) in
       let sign : j % 3 ≡ i % 3 = omega (arith, from) in
-      let last : i % 12 / 6 ≡ 1 = omega (arith, from) in
+      let last : i % 36 / 18 ≡ 1 = omega (arith, from) in
       let is_one : k.is_one ≡ true = ap (λ n. n == 1) last in (
         j,
         omega (arith, from),
@@ -375,20 +317,21 @@ module _ (f : NumberFormatter) (style : CompactStyle) (i : ℕ) where
             (ap (λ n. exponent_at f.notation (pos (n + 2))) magnitude),
       )
 
-  pub repeats_whole : 3 ≤ i % 6 → f.outer ≡ OuterTexts.None → is_percent f.options.style ≡ false
-      → RepeatsAnother f style i
-  repeats_whole from alone plain =
+  -- what is around the whole text does not depend on the category
+  pub repeats_whole : 3 ≤ i % 18 → has_categories f ≡ false → RepeatsAnother f style i
+  repeats_whole from none =
       let j = i - 3 in
       let k = key_at i in
-      let magnitude : j / 72 ≡ i / 72 = omega (arith, from) in
-      let category : j % 72 / 12 ≡ i % 72 / 12 = omega (arith, from) in
-      let one : j % 12 / 6 ≡ i % 12 / 6 = omega (arith, from) in
+      let magnitude : j / 216 ≡ i / 216 = omega (arith, from) in
+      let category : j % 216 / 36 ≡ i % 216 / 36 = omega (arith, from) in
+      let one : j % 36 / 18 ≡ i % 36 / 18 = omega (arith, from) in
       let sign : j % 3 ≡ i % 3 = omega (arith, from) in (
         j,
         omega (arith, from),
         alike_by f style (key_at j) k
             (λ n. around_by f.style (sign_at (sign n)) (pattern_for (category_at (category n)) (one n == 1)
             (compact_patterns f.formats style (pos (magnitude n + 2)))))
-            (plain_outer f alone plain (key_at j).whole k.whole) (ap sign_at sign)
+            (same_outer f.formats f.outer (words_of f) f.options.style (key_at j).whole k.whole none)
+            (ap sign_at sign)
             (ap (λ n. exponent_at f.notation (pos (n + 2))) magnitude),
       )

@@ -1,13 +1,13 @@
 -- Whether a significand is written with the texts of a pattern.
 use Rattle.std.proofs.{Common.{◌≡◌, ℕ, Bool, true, false, List, ◌++◌, inl, inr, refl, sym, ◌∙◌, ap, subst, w16, w32, to_z, of_z, FitsSigned}, lemmas.Int.to_z-of_z}
-use Rattle.std.specs.{Prelude.{◌↔◌, ◌⊎◌, IsTrue, Result, Ok, Err, ℤ, pos, ◌≤ℤ◌}, List.Contains}
+use Rattle.std.specs.{Prelude.{◌↔◌, IsTrue, Result, Ok, Err, ℤ, pos, ◌≤ℤ◌}, List.Contains}
 use Rattle.decimal_unsigned.specs.declared.error.ParseError.{ParseError}
 use Rattle.fixed_decimal.specs.{Decimal.Decimal}
 use Rattle.plural_rules.specs.{Operands.plain, declared.rules.PluralCategory.PluralCategory}
 use Rattle.locale_data.specs.{Plurals.IsCategoryAt, declared.compact.CompactStyle.CompactStyle}
-use Rattle.decimal_format.specs.{Formatted.absolute_text, Reading.IsRead, Symbols.{Affixes, affixes}}
-use Rattle.number_format.specs.{declared.{format.{formatter.NumberFormatter.NumberFormatter, outer.OuterTexts.OuterTexts}, read.{compact.keys.CompactKey.CompactKey, pattern.NumberPattern.NumberPattern}}, AffixedTexts.{Reader, shifted, IsNumeral, IsWritten, IsWrittenBy}, CompactReading.{inner_at, category_at, word_pattern, word_reader, magnitude_by, is_unit, HasTextsOf, IsOwnOr, IsOwnPattern, IsReadShownInWords, IsShownInWords, IsReadInAnyWords, IsWordReader}, NumberText.outer_by, PatternTexts.Around, Scaled.exponent_at, TextParts.pieces_text}
-use Rattle.number_format.proofs.lemmas.{range.RangeEnds.category_unique, read.{AffixedNumbers.two_texts, CompactKeys.{same_outer, whole_code}, CompactTexts.small_exponent}}
+use Rattle.decimal_format.specs.{Formatted.absolute_text, Reading.IsRead, Symbols.Affixes}
+use Rattle.number_format.specs.{declared.{format.formatter.NumberFormatter.NumberFormatter, read.{compact.keys.CompactKey.CompactKey, pattern.NumberPattern.NumberPattern}}, AffixedTexts.{Reader, shifted, IsNumeral, IsWritten, IsWrittenBy}, CompactReading.{category_at, word_pattern, word_reader, magnitude_by, is_unit, HasTextsOf, IsOwnOr, IsOwnPattern, IsReadShownInWords, IsShownInWords, IsReadInAnyWords, IsWordReader}, Scaled.exponent_at}
+use Rattle.number_format.proofs.lemmas.{range.RangeEnds.category_unique, read.{AffixedNumbers.two_texts, CompactKeys.{code, coded}, CompactPatterns.AllBelow, CompactTexts.small_exponent}}
 
 -- powers of ten are compared as 32-bit integers
 pub same_powers : (b : Bool) (m n : ℤ) → FitsSigned w32 m → FitsSigned w32 n
@@ -110,36 +110,21 @@ module _ (f : NumberFormatter) (style : CompactStyle) (v : Decimal) (p : NumberP
         by false has = absurd (none has)
         by true has = test.1 has
 
--- the texts of a key are those of the category `other` or `one` of the whole number
-module _ (f : NumberFormatter) (style : CompactStyle) (p : NumberPattern) (k : CompactKey)
-    (alone : f.outer ≡ OuterTexts.None) where
-  abbrev texts : Around → Affixes
-  texts outer = affixes (pieces_text outer.prefix ++ pieces_text (inner_at f style k).prefix)
-      (pieces_text (inner_at f style k).suffix ++ pieces_text outer.suffix)
-
+-- the texts of a key are those of some category of the whole number
+module _ (f : NumberFormatter) (style : CompactStyle) (p : NumberPattern) (k : CompactKey) where
   abbrev HasTexts : PluralCategory → Type 0
   HasTexts whole = p.affixes ≡ (word_pattern f style (record k { whole = whole })).affixes
 
-  one_of : HasTextsOf f style p k → HasTexts PluralCategory.Other ⊎ HasTexts PluralCategory.One
-  one_of (whole, e) = go whole (e ∙ ap texts (same_outer f alone whole))
-    where
-      go : (c : PluralCategory) → p.affixes ≡ texts (outer_by f (category_at (whole_code c)))
-          → HasTexts PluralCategory.Other ⊎ HasTexts PluralCategory.One
-      go PluralCategory.One e = inr e
-      go PluralCategory.Other e = inl e
-      go PluralCategory.Two e = inl e
-      go PluralCategory.Few e = inl e
-      go PluralCategory.Many e = inl e
-      go PluralCategory.Zero e = inl e
+  -- they are not those of a category with an index
+  abbrev pub LacksTexts : ℕ → Type 0
+  LacksTexts i = ¬ HasTexts (category_at i)
 
-  pub texts_of_other : (b : Bool) → b ≡ true → HasTexts PluralCategory.Other → IsTrue b ↔ HasTextsOf f style p k
-  texts_of_other b on e = (λ t. (PluralCategory.Other, e), λ has. on)
-
-  pub texts_of_one : (b : Bool) → ¬ HasTexts PluralCategory.Other → IsTrue b ↔ HasTexts PluralCategory.One
-      → IsTrue b ↔ HasTextsOf f style p k
-  texts_of_one b none test = (
-    λ t. (PluralCategory.One, test.0 t),
-    λ has. elim (one_of has) [ inl e ↦ absurd (none e) | inr e ↦ test.1 e ],
+  pub none_of : AllBelow LacksTexts 6 → IsTrue false ↔ HasTextsOf f style p k
+  none_of lacks = (
+    λ t. absurd (cc),
+    λ has.
+        let c = coded has.0 in
+        absurd (lacks (code has.0) c.0 (subst HasTexts (sym c.1) has.1)),
   )
 
 -- ---- What is read.

@@ -1,9 +1,9 @@
 -- The patterns of compact notation, by the indexes of their keys.
-use Rattle.std.proofs.{Common.{◌≡◌, ℕ, zero, suc, ◌+◌, ◌<◌, ◌≤◌, Bool, true, false, List, [], ◌∷◌, ◌++◌, inl, inr, refl, sym, ◌∙◌, subst, arith}, lemmas.Bool.cases_lt}
-use Rattle.std.specs.{Prelude.{◌↔◌, ◌⊎◌, IsTrue}, List.Contains}
+use Rattle.std.proofs.{Common.{◌≡◌, ℕ, zero, suc, ◌+◌, ◌-◌, ◌*◌, ◌/◌, ◌<◌, ◌≤◌, Bool, true, false, List, [], ◌∷◌, ◌++◌, inl, inr, refl, sym, ◌∙◌, subst, arith}, lemmas.Bool.cases_lt}
+use Rattle.std.specs.{Prelude.{◌↔◌, ◌⊎◌, IsTrue, pos}, List.Contains}
 use Rattle.locale_data.specs.declared.compact.CompactStyle.{CompactStyle}
-use Rattle.number_format.specs.{declared.{format.{outer.OuterTexts.OuterTexts, formatter.NumberFormatter.NumberFormatter}, read.{compact.keys.CompactKey.CompactKey, pattern.NumberPattern.NumberPattern}}, AffixedTexts.{AreNamed, AreToldApart}, CompactReading.{inner_at, word_pattern, key_at, AreWordPatterns, AreWordsNamed, HasCompactExponents, HasWordNumbers, IsIndexApart, RepeatsAnother}}
-use Rattle.number_format.proofs.lemmas.read.CompactKeys.{index_of}
+use Rattle.number_format.specs.{declared.{format.formatter.NumberFormatter.NumberFormatter, read.{compact.keys.CompactKey.CompactKey, pattern.NumberPattern.NumberPattern}}, AffixedTexts.{AreNamed, AreToldApart}, CompactReading.{inner_at, word_pattern, key_at, AreWordPatterns, AreAlike, AreFirstPatterns, AreWordsNamed, HasCompactExponents, HasWordNumbers, IsIndexApart, IsSameBefore, RepeatsAnother}}
+use Rattle.number_format.proofs.lemmas.read.CompactKeys.{index_of, same_in_row}
 
 -- ---- A loop over indexes that passes over those that repeat another.
 
@@ -20,6 +20,14 @@ module _ (Q : ℕ → Type 0) where
   pub fails_at : (n end : ℕ) (b : Bool) → n < end → IsTrue b ↔ Q n → b ≡ false → IsTrue false ↔ AllBelow end
   fails_at n end b below test fails =
       (λ t. absurd (cc), λ all. let t = test.1 (all n below) in absurd (cc))
+
+  -- 216 more, each of which follows from the one 216 before it
+  pub row_again : (n : ℕ) → 216 ≤ n → ((i : ℕ) → n ≤ i → i < n + 216 → Q (i - 216) → Q i) → AllBelow n
+      → AllBelow (n + 216)
+  row_again n from step all i below = elim (cases_lt i n) [
+    | inl h ↦ all i h
+    | inr h ↦ step i (omega (arith, h)) below (all (i - 216) (omega (arith, h, below, from)))
+  ]
 
   pub all_of : (n end : ℕ) → end ≤ n → AllBelow n → AllBelow end
   all_of n end long all i below = all i (omega (arith, long, below))
@@ -48,6 +56,13 @@ of_either (z ∷ zs) x y (suc k, below, e) = elim (of_either zs x y (k, omega (a
 -- ---- What holds of each index holds of each key.
 
 module _ (f : NumberFormatter) (style : CompactStyle) where
+  in_row : (row : ℕ) → 216 ≤ row * 216 → IsSameBefore f style (key_at (row * 216)).magnitude → (i : ℕ) → row * 216 ≤ i
+      → i < row * 216 + 216 → AreAlike f style (key_at (i - 216)) (key_at i)
+  in_row row from same i least below =
+      let magnitude : (row * 216) / 216 ≡ i / 216 = omega (arith, least, below) in
+      same_in_row f style i (omega (arith, from, least))
+      (subst (λ n. IsSameBefore f style (pos (n + 2))) magnitude same)
+
   abbrev pub HasNumberAt : ℕ → Type 0
   HasNumberAt i = (inner_at f style (key_at i)).has_number ≡ true
 
@@ -68,24 +83,36 @@ module _ (f : NumberFormatter) (style : CompactStyle) where
       subst (λ p. AreToldApart f.style.symbols p (word_pattern f style (key_at l))) alike.pattern
       (all j (omega (arith, within, below)) l h)
 
-  -- patterns of keys, among them those of the first indexes
-  pub record AreFirstPatterns (n : ℕ) (patterns : List NumberPattern) : Type 0 where
-    pub all : AllBelow (λ i. Contains patterns (word_pattern f style (key_at i))) n
-    pub only : (p : NumberPattern) → Contains patterns p → (k : CompactKey) × (p ≡ word_pattern f style k)
+  -- a magnitude with the texts of the one before it
+  pub numbers_again : (row : ℕ) → 216 ≤ row * 216 → IsSameBefore f style (key_at (row * 216)).magnitude
+      → AllBelow HasNumberAt (row * 216) → AllBelow HasNumberAt (row * 216 + 216)
+  numbers_again row from same =
+      row_again HasNumberAt (row * 216) from
+      (λ i least below has. sym (in_row row from same i least below).has_number ∙ has)
 
-  pub no_patterns : AreFirstPatterns 0 []
+  pub no_patterns : AreFirstPatterns f style 0 []
   no_patterns = record { all = λ i below. absurd (omega (arith, below)); only = λ p has. absurd (omega (arith, has.1)) }
 
-  pub pattern_again : (n : ℕ) (patterns : List NumberPattern) → AreFirstPatterns n patterns
-      → RepeatsAnother f style n → AreFirstPatterns (n + 1) patterns
+  pub pattern_again : (n : ℕ) (patterns : List NumberPattern) → AreFirstPatterns f style n patterns
+      → RepeatsAnother f style n → AreFirstPatterns f style (n + 1) patterns
   pattern_again n patterns are (j, below, alike) = record {
     all = one_more (λ i. Contains patterns (word_pattern f style (key_at i))) n are.all
         (subst (Contains patterns) alike.pattern (are.all j below));
     only = are.only;
   }
 
-  pub pattern_more : (n : ℕ) (patterns : List NumberPattern) (p : NumberPattern) → AreFirstPatterns n patterns
-      → p ≡ word_pattern f style (key_at n) → AreFirstPatterns (n + 1) (patterns ++ p ∷ [])
+  pub row_patterns : (row : ℕ) (patterns : List NumberPattern) → 216 ≤ row * 216
+      → IsSameBefore f style (key_at (row * 216)).magnitude → AreFirstPatterns f style (row * 216) patterns
+      → AreFirstPatterns f style (row * 216 + 216) patterns
+  row_patterns row patterns from same are = record {
+    all = row_again (λ i. Contains patterns (word_pattern f style (key_at i))) (row * 216) from
+        (λ i least below has. subst (Contains patterns) (in_row row from same i least below).pattern has)
+        are.all;
+    only = are.only;
+  }
+
+  pub pattern_more : (n : ℕ) (patterns : List NumberPattern) (p : NumberPattern) → AreFirstPatterns f style n patterns
+      → p ≡ word_pattern f style (key_at n) → AreFirstPatterns f style (n + 1) (patterns ++ p ∷ [])
   pattern_more n patterns p are is = record {
     all = one_more (λ i. Contains (patterns ++ p ∷ []) (word_pattern f style (key_at i))) n
         (λ i below. contains_before patterns p _ (are.all i below))
@@ -96,18 +123,18 @@ module _ (f : NumberFormatter) (style : CompactStyle) where
     ];
   }
 
-  module _ (alone : f.outer ≡ OuterTexts.None) (exponents : HasCompactExponents f.notation) where
-    pub each_number : AllBelow HasNumberAt 1296 ↔ HasWordNumbers f style
+  module _ (exponents : HasCompactExponents f.notation) where
+    pub each_number : AllBelow HasNumberAt 3888 ↔ HasWordNumbers f style
     each_number = (
-      λ all k. let i = index_of f style alone exponents k in sym i.2.has_number ∙ all i.0 i.1,
+      λ all k. let i = index_of f style exponents k in sym i.2.has_number ∙ all i.0 i.1,
       λ has i below. has (key_at i),
     )
 
-    pub each_apart : AllBelow (IsIndexApart f style) 1296 ↔ AreWordsNamed f style
+    pub each_apart : AllBelow (IsIndexApart f style) 3888 ↔ AreWordsNamed f style
     each_apart = (
       λ all k l.
-          let i = index_of f style alone exponents k in
-          let j = index_of f style alone exponents l in
+          let i = index_of f style exponents k in
+          let j = index_of f style exponents l in
           subst (AreToldApart f.style.symbols (word_pattern f style k)) j.2.pattern
           (subst (λ p. AreToldApart f.style.symbols p (word_pattern f style (key_at j.0))) i.2.pattern
           (all i.0 i.1 j.0 j.1)),
@@ -116,11 +143,11 @@ module _ (f : NumberFormatter) (style : CompactStyle) where
 
     -- ---- A list of all patterns.
 
-    pub are_patterns : (n : ℕ) (patterns : List NumberPattern) → 1296 ≤ n → AreFirstPatterns n patterns
+    pub are_patterns : (n : ℕ) (patterns : List NumberPattern) → 3888 ≤ n → AreFirstPatterns f style n patterns
         → AreWordPatterns f style patterns
     are_patterns n patterns long are = record {
       all = λ k.
-          let i = index_of f style alone exponents k in
+          let i = index_of f style exponents k in
           subst (Contains patterns) i.2.pattern (are.all i.0 (omega (arith, long, i.1)));
       only = are.only;
     }

@@ -8,7 +8,7 @@ use Rattle.fixed_decimal.proofs.Calling.{below_limit, first_zero}
 use Rattle.plural_rules.specs.Operands as operands
 use Rattle.locale_data.specs.{Plurals.IsCategoryAt, declared.compact.CompactStyle.CompactStyle}
 use Rattle.decimal_format.specs.Formatted.{absolute_text}
-use Rattle.number_format.specs.{declared.{digits.options.DigitOptions.DigitOptions, format.{formatter.NumberFormatter.NumberFormatter, outer.OuterTexts.OuterTexts}, notation.Notation.Notation, options.{NumberNotation.NumberNotation, NumberStyle.NumberStyle}, read.{compact.keys.CompactKey.CompactKey}}, FormattedNumbers.{visible_text, exponent_text}, AffixedTexts.{between, shifted, IsWrittenBy}, CompactReading.{word_pattern, magnitude_by, is_unit, word_reader, HasCompactExponents, IsOwnInWords, IsReadInWords, IsShownInWords}, NumberReading.{CanRead, CanReadExponents, CanReadNotation, CanReadWords, IsShownAs, KeepsNotation, words_of, AreOwnWordsNamed}, NumberText.{IsNumberText, around_by, bare_separator, compact_magnitude, compact_pattern, compact_power, compact_style, exponent_of, is_one, rounded_in, shown_sign}, ScientificReading.exponent_form, Scaled.{ScaledValue, base_exponent, compact_exponent, exponent_at, IsOrdered}}
+use Rattle.number_format.specs.{declared.{digits.options.DigitOptions.DigitOptions, format.formatter.NumberFormatter.NumberFormatter, notation.Notation.Notation, options.{NumberNotation.NumberNotation, NumberStyle.NumberStyle}, read.{compact.keys.CompactKey.CompactKey}}, FormattedNumbers.{visible_text, exponent_text}, AffixedTexts.{between, shifted, IsWrittenBy}, CompactReading.{word_pattern, magnitude_by, is_unit, word_reader, HasCompactExponents, IsOwnInWords, IsReadInWords, IsShownInWords}, NumberReading.{CanRead, CanReadExponents, CanReadNotation, CanReadWords, IsShownAs, KeepsNotation, words_of, AreOwnWordsNamed}, NumberText.{IsNumberText, around_by, bare_separator, compact_magnitude, compact_pattern, compact_power, compact_style, exponent_of, is_one, rounded_in, shown_sign}, ScientificReading.exponent_form, Scaled.{ScaledValue, base_exponent, compact_exponent, exponent_at, IsOrdered}}
 use Rattle.number_format.proofs.lemmas.{format.PieceTexts.{shows_integer, text-of_digits_and_exponent}, notation.Scales.{keeps_exponent, zero_exponent}, read.{AffixedNumbers.two_texts, CompactKeys.{clamped, same_exponent_at}, FormatterTexts.{text_within, some_same}, ShownValues.{scaled_first}}}
 
 -- ---- The exponent.
@@ -113,12 +113,12 @@ no_form f (NumberNotation.Scientific o) style words is = absurd (cc)
 no_form f (NumberNotation.Engineering o) style words is = absurd (cc)
 
 module _ (f : NumberFormatter) (style : CompactStyle) (words : words_of f ≡ Some style) where
-  pub can_read : CanReadNotation f → (f.outer ≡ OuterTexts.None) × CanReadWords f (Some style)
+  pub can_read : CanReadNotation f → CanReadWords f (Some style)
   can_read (inl standard) =
       absurd (let none : None ≡ Some style = (λ i. compact_style (sym standard i) f.options.style) ∙ words in cc)
-  can_read (inr (alone, inl exponents)) =
+  can_read (inr (inl exponents)) =
       absurd (subst (CanReadExponents f) (no_form f f.options.notation f.options.style style words) exponents)
-  can_read (inr (alone, inr can)) = (alone, subst (CanReadWords f) words can)
+  can_read (inr (inr can)) = subst (CanReadWords f) words can
 
   module _ (can : CanRead f) where
     named : AreOwnWordsNamed f (Some style)
@@ -129,13 +129,13 @@ module _ (f : NumberFormatter) (style : CompactStyle) (words : words_of f ≡ So
           ≡ exponent_at f.notation (first shown.number.significand.absolute.number +ℤ shown.number.exponent)
       own_exponent =
           let first = scaled_first f v shown.number valid shown.number_is in
-          let has = (can_read can.undo.0.0).1 in
+          let has = can_read can.undo.0.0 in
           exponent_is f f.digits first.0 shown.number has.1.0 first.1 has.0 first.2
 
       own_zero : shown.number.significand.absolute.number ≡ 0 → shown.number.exponent ≡ pos 0
       own_zero none =
           let first = scaled_first f v shown.number valid shown.number_is in
-          let has = (can_read can.undo.0.0).1 in
+          let has = can_read can.undo.0.0 in
           zero_is f f.digits first.0 shown.number has.1.0 first.1 has.0 first.2 none
 
       -- the formatter writes the number with its words
@@ -144,7 +144,7 @@ module _ (f : NumberFormatter) (style : CompactStyle) (words : words_of f ≡ So
       is_shown text t =
           let number = shown.number in
           let e = number.exponent in
-          let has = (can_read can.undo.0.0).1.1.0 in
+          let has = (can_read can.undo.0.0).1.0 in
           let k : CompactKey = record {
             magnitude = compact_magnitude f.notation number.significand e;
             category = t.1.category;
@@ -171,7 +171,7 @@ module _ (f : NumberFormatter) (style : CompactStyle) (words : words_of f ≡ So
             strategy = f.options.grouping;
             is = text_within f v u text can.undo.1 t shown _
                 (ap (λ w. around_by f.style k.sign (compact_pattern f.formats w k.magnitude k.category k.is_one)) words)
-                ((can_read can.undo.0.0).1.1.1 k)
+                ((can_read can.undo.0.0).1.1 k)
                 ∙ ap (between (word_pattern f style k))
                 (text-of_digits_and_exponent f u.absolute shown_exponent
                 ∙ (λ i. (visible_text (shows_integer f.digits f.options.decimal_separator u.absolute can.undo.0.2 i)

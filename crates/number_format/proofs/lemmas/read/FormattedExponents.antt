@@ -43,12 +43,11 @@ notation_is f (NumberNotation.Engineering o) style form (Notation.Compact table)
 -- ---- The exponent.
 
 module _ (f : NumberFormatter) (form : ExponentForm) (h : exponent_form f f.options.notation ≡ Some form) where
-  can_read : CanReadNotation f
-      → (f.outer ≡ OuterTexts.None) × (KeepsNotation f.digits × CanReadExponent f.style.symbols form)
+  can_read : CanReadNotation f → CanReadExponents f (Some form)
   can_read (inl standard) =
       absurd (let none : None ≡ Some form = (λ i. exponent_form f (sym standard i)) ∙ h in cc)
-  can_read (inr (alone, inl can)) = (alone, subst (CanReadExponents f) h can)
-  can_read (inr (alone, inr words)) =
+  can_read (inr (inl can)) = subst (CanReadExponents f) h can
+  can_read (inr (inr words)) =
       absurd (subst (CanReadWords f) (no_words f f.options.notation f.options.style form h) words)
 
   -- a number that is rounded has the exponent of the notation

@@ -4,7 +4,6 @@ ghost use Rattle.decimal_format.specs.Readable.{IsReadable};
 ghost use Rattle.number_format.specs.{AffixedTexts.AreToldApart, CompactReading.{word_pattern, key_at, HasCompactExponents, IsIndexApart, AreWordsNamed}};
 
 use crate::format::formatter::NumberFormatter;
-use crate::format::outer::OuterTexts;
 use crate::read::apart::are_told_apart;
 use crate::read::compact::keys::{CompactKey, KEY_COUNT, key_at};
 use locale_data::CompactStyle;
@@ -30,8 +29,7 @@ impl NumberFormatter {
 
     fn is_index_apart(&self, style: CompactStyle, index: usize) -> bool
         requires readable { IsReadable self.now.style.symbols }
-        requires alone { self.now.outer ≡ OuterTexts.None }
-        requires listed { index < 1296 }
+        requires listed { index < 3888 }
         ensures { IsTrue result ↔ IsIndexApart self.now style index }
     {
         let key = key_at(index);
@@ -46,7 +44,6 @@ impl NumberFormatter {
     /// Returns whether each two texts are told apart. It is slow.
     pub(crate) fn are_words_apart(&self, style: CompactStyle) -> bool
         requires readable { IsReadable self.now.style.symbols }
-        requires alone { self.now.outer ≡ OuterTexts.None }
         requires exponents { HasCompactExponents self.now.notation }
         ensures { IsTrue result ↔ AreWordsNamed self.now style }
     {

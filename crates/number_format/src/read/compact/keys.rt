@@ -14,16 +14,18 @@ pub(crate) struct CompactKey {
     pub(crate) category: PluralCategory,
     /// Whether the significand is 1, without a minus sign.
     pub(crate) is_one: bool,
-    /// The plural category of the whole number, by which a percent sign is chosen.
+    /// The plural category of the whole number, by which a unit, a name or a percent sign is chosen.
     pub(crate) whole: PluralCategory,
     /// The sign that is shown.
     pub(crate) sign: Sign,
 }
 
-/// The number of keys whose texts are all that there are: 18 magnitudes, 6 categories, 2, 2 and 3 signs.
-pub(crate) const KEY_COUNT: usize = 1296;
+/// The number of keys whose texts are all that there are: 18 magnitudes, 6 categories, 2, 6 categories
+/// and 3 signs.
+pub(crate) const KEY_COUNT: usize = 3888;
 
-fn category_at(index: usize) -> PluralCategory
+/// Returns a category: the first one is `Other`.
+pub(crate) fn category_at(index: usize) -> PluralCategory
     ensures { result ≡ category_at index }
 {
     match index {
@@ -48,14 +50,14 @@ fn sign_at(index: usize) -> Sign
 
 /// Returns the key with an index: of the magnitudes 2 to 19.
 pub(crate) fn key_at(index: usize) -> CompactKey
-    requires { index < 1296 }
+    requires { index < 3888 }
     ensures { result ≡ key_at index }
 {
     CompactKey {
-        magnitude: (index / 72) as i16 + 2,
-        category: category_at(index % 72 / 12),
-        is_one: index % 12 / 6 == 1,
-        whole: category_at(index % 6 / 3),
+        magnitude: (index / 216) as i16 + 2,
+        category: category_at(index % 216 / 36),
+        is_one: index % 36 / 18 == 1,
+        whole: category_at(index % 18 / 3),
         sign: sign_at(index % 3),
     }
 }

@@ -1,15 +1,13 @@
 //! The texts around numbers in compact notation.
-ghost use Rattle.std.specs.{Prelude.{◌≡◌, ◌↔◌, ◌<◌, ◌≤ℤ◌, pos, IsTrue, IfSome, IfOk}, Option.option_copied};
+ghost use Rattle.std.specs.{Prelude.{◌≡◌, ◌↔◌, ◌<◌, ◌≤◌, ◌+◌, ◌*◌, ◌≤ℤ◌, pos, IsTrue, IfSome, IfOk, OnOk}, Option.option_copied};
 ghost use Rattle.locale_data.specs.Compact.{pattern_for, patterns_in, compact_patterns, AreTexts};
-ghost use Rattle.number_format.specs.{CompactReading.{inner_at, word_pattern, key_at, is_of_one, is_of_other, is_percent, IsSameBefore, RepeatsAnother, HasCompactExponents, HasWordNumbers, AreWordPatterns}, NumberText.AreParts};
+ghost use Rattle.number_format.specs.{CompactReading.{inner_at, word_pattern, key_at, is_of_one, is_of_other, IsSameBefore, RepeatsAnother, HasCompactExponents, HasWordNumbers, HaveNumbersBelow, AreWordPatterns, AreFirstPatterns}, NumberText.AreParts};
 
 use crate::format::affixes::NumberAffixes;
 use crate::format::formatter::NumberFormatter;
-use crate::format::outer::OuterTexts;
 use crate::format::short_affixes::ShortAffixes;
-use crate::options::NumberStyle;
 use crate::read::apart::are_same_powers;
-use crate::read::compact::keys::{CompactKey, KEY_COUNT, key_at};
+use crate::read::compact::keys::{CompactKey, key_at};
 use crate::read::owned_affixes::OwnedAffixes;
 use crate::read::pattern::{NumberPattern, joined_texts};
 use locale_data::{CompactPattern, CompactPatterns, CompactStyle};
@@ -23,12 +21,6 @@ fn are_same_rows(first: CompactPatterns, second: CompactPatterns) -> bool
         return false;
     }
     first.0.1 == second.0.1
-}
-
-fn is_percent(style: NumberStyle) -> bool
-    ensures { result ≡ is_percent style }
-{
-    matches!(style, NumberStyle::Percent)
 }
 
 fn is_of_other(pattern: Option<&CompactPattern>) -> bool
@@ -56,7 +48,11 @@ impl NumberFormatter {
         self.formats.compact_patterns(style, magnitude)
     }
 
-    fn word(&self, style: CompactStyle, key: CompactKey) -> Option<&'static CompactPattern>
+    pub(crate) fn word(
+        &self,
+        style: CompactStyle,
+        key: CompactKey,
+    ) -> Option<&'static CompactPattern>
         ensures value { option_copied result
             ≡ pattern_for key.category key.is_one (compact_patterns self.now.formats style key.magnitude) }
         ensures texts { IfSome result (λ pattern. AreTexts pattern.now) }
@@ -65,7 +61,7 @@ impl NumberFormatter {
             .pattern(key.category, key.is_one)
     }
 
-    fn inner_at(&self, style: CompactStyle, key: CompactKey) -> NumberAffixes<'_>
+    pub(crate) fn inner_at(&self, style: CompactStyle, key: CompactKey) -> NumberAffixes<'_>
         ensures { AreParts (inner_at self.now style key) result }
     {
         self.style.affixes(key.sign, self.word(style, key))
@@ -93,34 +89,71 @@ impl NumberFormatter {
         are_same_powers(exponent, self.notation.exponent_at(before))
     }
 
-    /// Returns whether the texts of a key are those of one with a smaller index.
-    pub(crate) fn repeats(&self, style: CompactStyle, index: usize) -> bool
-        requires alone { self.now.outer ≡ OuterTexts.None }
-        requires listed { index < 1296 }
+    fn is_same_row(&self, style: CompactStyle, index: usize) -> bool
+        requires { index < 3888 }
+        ensures { IsTrue result → (216 ≤ index) × IsSameBefore self.now style (key_at index).magnitude }
+    {
+        if index < 216 {
+            return false;
+        }
+        self.is_same_before(style, key_at(index).magnitude)
+    }
+
+    fn repeats_in_row(&self, style: CompactStyle, index: usize) -> bool
+        requires { index < 3888 }
         ensures { IsTrue result → RepeatsAnother self.now style index }
     {
-        if index % 6 >= 3 && !is_percent(self.options.style) {
+        if index % 18 >= 3 && !self.has_categories() {
             return true;
         }
         let key = key_at(index);
-        if index >= 72 && self.is_same_before(style, key.magnitude) {
-            return true;
-        }
         let pattern = self.word(style, key);
-        if index % 72 >= 6 && is_of_other(pattern) {
+        if index % 216 >= 18 && is_of_other(pattern) {
             return true;
         }
-        index % 12 >= 6 && !is_of_one(pattern)
+        index % 36 >= 18 && !is_of_one(pattern)
+    }
+
+    /// Returns whether the texts of a key are those of one with a smaller index.
+    pub(crate) fn repeats(&self, style: CompactStyle, index: usize) -> bool
+        requires { index < 3888 }
+        ensures { IsTrue result → RepeatsAnother self.now style index }
+    {
+        self.is_same_row(style, index) || self.repeats_in_row(style, index)
+    }
+
+    fn has_number_at(&self, style: CompactStyle, index: usize) -> bool
+        requires listed { index < 3888 }
+        requires before { HaveNumbersBelow self.now style index }
+        ensures { IsTrue result ↔ HaveNumbersBelow self.now style (index + 1) }
+    {
+        self.repeats_in_row(style, index) || self.inner_at(style, key_at(index)).has_number
+    }
+
+    fn have_row_numbers(&self, style: CompactStyle, row: usize) -> bool
+        requires listed { row < 18 }
+        requires before { HaveNumbersBelow self.now style (row * 216) }
+        ensures { IsTrue result ↔ HaveNumbersBelow self.now style (row * 216 + 216) }
+    {
+        let start = row * 216;
+        if self.is_same_row(style, start) {
+            return true;
+        }
+        for index in start..start + 216 {
+            if !self.has_number_at(style, index) {
+                return false;
+            }
+        }
+        true
     }
 
     /// Returns whether each text has a number: `mille` has none.
     pub(crate) fn has_word_numbers(&self, style: CompactStyle) -> bool
-        requires alone { self.now.outer ≡ OuterTexts.None }
-        requires exponents { HasCompactExponents self.now.notation }
+        requires { HasCompactExponents self.now.notation }
         ensures { IsTrue result ↔ HasWordNumbers self.now style }
     {
-        for index in 0..KEY_COUNT {
-            if !self.repeats(style, index) && !self.inner_at(style, key_at(index)).has_number {
+        for row in 0..18 {
+            if !self.have_row_numbers(style, row) {
                 return false;
             }
         }
@@ -135,7 +168,8 @@ impl NumberFormatter {
     ) -> Result<NumberPattern, AllocError>
         ensures { IfOk result (λ p. p ≡ word_pattern self.now style key) }
     {
-        let affixes = OwnedAffixes::copied(alloc, self.word_texts(style, key).texts())?;
+        let outer = self.outer_around(key.whole);
+        let affixes = OwnedAffixes::around(alloc, &outer, &self.inner_at(style, key))?;
         Ok(NumberPattern {
             affixes,
             sign: key.sign,
@@ -144,21 +178,57 @@ impl NumberFormatter {
         })
     }
 
+    fn push_word(
+        &self,
+        alloc: Global,
+        style: CompactStyle,
+        index: usize,
+        patterns: &mut Vec<NumberPattern>,
+    ) -> Result<(), AllocError>
+        requires listed { index < 3888 }
+        requires before { AreFirstPatterns self.now style index patterns.old.items }
+        ensures { OnOk result (AreFirstPatterns self.now style (index + 1) patterns.new.items) }
+    {
+        if self.repeats_in_row(style, index) {
+            return Ok(());
+        }
+        patterns.push(self.word_pattern(alloc, style, key_at(index))?)?;
+        Ok(())
+    }
+
+    fn push_words(
+        &self,
+        alloc: Global,
+        style: CompactStyle,
+        row: usize,
+        patterns: &mut Vec<NumberPattern>,
+    ) -> Result<(), AllocError>
+        requires listed { row < 18 }
+        requires before { AreFirstPatterns self.now style (row * 216) patterns.old.items }
+        ensures { OnOk result (AreFirstPatterns self.now style (row * 216 + 216) patterns.new.items) }
+    {
+        let start = row * 216;
+        if self.is_same_row(style, start) {
+            return Ok(());
+        }
+        for index in start..start + 216 {
+            self.push_word(alloc, style, index, patterns)?;
+        }
+        Ok(())
+    }
+
     /// Returns the texts around numbers, each of them once.
     pub(crate) fn word_patterns(
         &self,
         alloc: Global,
         style: CompactStyle,
     ) -> Result<Vec<NumberPattern>, AllocError>
-        requires alone { self.now.outer ≡ OuterTexts.None }
-        requires exponents { HasCompactExponents self.now.notation }
+        requires { HasCompactExponents self.now.notation }
         ensures { IfOk result (λ patterns. AreWordPatterns self.now style patterns.items) }
     {
         let mut patterns = Vec::new(alloc);
-        for index in 0..KEY_COUNT {
-            if !self.repeats(style, index) {
-                patterns.push(self.word_pattern(alloc, style, key_at(index))?)?;
-            }
+        for row in 0..18 {
+            self.push_words(alloc, style, row, &mut patterns)?;
         }
         Ok(patterns)
     }

@@ -19,10 +19,13 @@ pub(super) struct Scan {
 }
 
 /// Returns what follows a code at the start of a text.
-pub(super) fn cut<'t>(text: &'t [u8], code: &[u8]) -> Option<&'t [u8]>
+pub(crate) fn cut<'t>(text: &'t [u8], code: &[u8]) -> Option<&'t [u8]>
     ensures { MatchOption result ((rest : List ℕ) → text.now ≢ code.now ++ rest)
         (λ r. text.now ≡ code.now ++ r.now) }
 {
+    if code.is_empty() {
+        return Some(text);
+    }
     text.strip_prefix(code)
 }
 

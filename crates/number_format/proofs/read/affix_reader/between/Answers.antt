@@ -2,7 +2,7 @@ use Rattle.std.proofs.{Common.{◌≡◌, ◌++◌, List, ℕ, sym, ◌∙◌, s
 use Rattle.std.specs.Prelude.{IsTrue}
 use Rattle.decimal_format.specs.{Readable.{BeginsWithDigit, EndsWithDigit}, Symbols.Symbols}
 use Rattle.number_format.specs.{declared.read.pattern.NumberPattern.NumberPattern, AffixedTexts.IsBetween}
-use Rattle.number_format.proofs.read.affix_reader.between.Goals.{else-begins_with_digit-via-then-begins_with_digit+else-ends_with_digit, else-begins_with_digit-via-else-begins_with_digit}
+use Rattle.number_format.proofs.read.affix_reader.between.Goals.{else-ends_with_digit-via-then-ends_with_digit+else-begins_with_digit, else-ends_with_digit-via-else-ends_with_digit}
 use Rattle.number_format.proofs.read.affix_reader.between.Goals as goal
 
 -- only what was cut out can be between the affixes
@@ -24,11 +24,11 @@ returns c = λ middle b.
     let both = digits c.args.symbols.now c.args.pattern.now c.args.text.now _ _ c.in_ok-middle.middle.now
     (c.as_bytes.ensures.value ∙ c.texts-affixes.ensures.prefix)
     (c.as_bytes-2.ensures.value ∙ c.texts-affixes.ensures.suffix) c.in_ok-middle.ensures middle b in
-    elim c.else-begins_with_digit.branch [
-      | else-begins_with_digit-via-then-begins_with_digit+else-ends_with_digit w ↦
-          let t : IsTrue w.ends_with_digit.result = w.ends_with_digit.ensures.1 both.1 in
-          absurd (cc (t, w.if-ends_with_digit.false))
-      | else-begins_with_digit-via-else-begins_with_digit w ↦
-          let t : IsTrue c.begins_with_digit.result = c.begins_with_digit.ensures.1 both.0 in
+    elim c.else-ends_with_digit.branch [
+      | else-ends_with_digit-via-then-ends_with_digit+else-begins_with_digit w ↦
+          let t : IsTrue w.begins_with_digit.result = w.begins_with_digit.ensures.1 both.0 in
           absurd (cc (t, w.if-begins_with_digit.false))
+      | else-ends_with_digit-via-else-ends_with_digit w ↦
+          let t : IsTrue c.ends_with_digit.result = c.ends_with_digit.ensures.1 both.1 in
+          absurd (cc (t, w.if-ends_with_digit.false))
     ]

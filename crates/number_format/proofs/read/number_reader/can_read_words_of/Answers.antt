@@ -21,6 +21,6 @@ returns c = (
   λ h. c.has_word_numbers.ensures.1 h.1.1,
 )
 
-pub has_word_numbers-requires-clause-exponents : goal.has_word_numbers-requires-clause-exponents
-has_word_numbers-requires-clause-exponents c =
+pub has_word_numbers-requires : goal.has_word_numbers-requires
+has_word_numbers-requires c =
     c.has_compact_exponents.ensures.0 c.if-not-has_compact_exponents.false

@@ -4,15 +4,10 @@ use Rattle.number_format.specs.NumberReading.{AreOwnWordsNamed, words_of}
 use Rattle.number_format.proofs.lemmas.read.CompactTexts.{can_read}
 use Rattle.number_format.proofs.format.formatter.NumberFormatter.are_own_words_apart.Goals as goal
 
-pub are_words_apart-requires-clause-alone : goal.are_words_apart-requires-clause-alone
-are_words_apart-requires-clause-alone c =
-    let words : words_of c.args.self.now ≡ Some c.in-Some.style = sym c.compact_style.ensures ∙ c.in-Some.is in
-    (can_read c.args.self.now c.in-Some.style words c.requires.undo.0.0).0
-
 pub are_words_apart-requires-clause-exponents : goal.are_words_apart-requires-clause-exponents
 are_words_apart-requires-clause-exponents c =
     let words : words_of c.args.self.now ≡ Some c.in-Some.style = sym c.compact_style.ensures ∙ c.in-Some.is in
-    (can_read c.args.self.now c.in-Some.style words c.requires.undo.0.0).1.1.0
+    (can_read c.args.self.now c.in-Some.style words c.requires.undo.0.0).1.0
 
 pub returns-in-Some : goal.returns-in-Some
 returns-in-Some c =

@@ -8,9 +8,9 @@ pub returns-then-not-is_index_apart : goal.returns-then-not-is_index_apart
 returns-then-not-is_index_apart c =
     let f = c.args.self.now in
     let style = c.args.style in
-    let fails = fails_at (IsIndexApart f style) c.loop-index.index 1296 c.is_index_apart.result (omega arith)
+    let fails = fails_at (IsIndexApart f style) c.loop-index.index 3888 c.is_index_apart.result (omega arith)
     c.is_index_apart.ensures c.if-not-is_index_apart.true in
-    let each = each_apart f style c.requires.alone c.requires.exponents in
+    let each = each_apart f style c.requires.exponents in
     (λ t. each.0 (fails.0 t), λ h. fails.1 (each.1 h))
 
 pub loop-index-preserved : goal.loop-index-preserved
@@ -31,6 +31,6 @@ pub returns : goal.returns
 returns c =
     let f = c.args.self.now in
     let style = c.args.style in
-    let each = each_apart f style c.requires.alone c.requires.exponents in
-    let all = all_of (IsIndexApart f style) c.loop-index.index 1296 (omega arith) c.loop-index.invariant in
+    let each = each_apart f style c.requires.exponents in
+    let all = all_of (IsIndexApart f style) c.loop-index.index 3888 (omega arith) c.loop-index.invariant in
     (λ t. each.0 all, λ h. refl)

@@ -13,9 +13,9 @@ returns-then-not-are_pair_told c =
     let test = subst (λ k. IsTrue c.are_pair_told.result
     ↔ AreToldApart f.style.symbols (word_pattern f style key) (word_pattern f style k)) c.key_at.ensures
     c.are_pair_told.ensures in
-    let fails = fails_at (IsToldFrom f style key) c.loop-other.other 1296 c.are_pair_told.result (omega arith) test
+    let fails = fails_at (IsToldFrom f style key) c.loop-other.other 3888 c.are_pair_told.result (omega arith) test
     c.if-not-are_pair_told.true in
-    subst (λ k. IsTrue false ↔ AllBelow (IsToldFrom f style k) 1296) c.key_at-key.ensures fails
+    subst (λ k. IsTrue false ↔ AllBelow (IsToldFrom f style k) 3888) c.key_at-key.ensures fails
 
 pub loop-other-preserved : goal.loop-other-preserved
 loop-other-preserved c =
@@ -37,6 +37,6 @@ pub returns : goal.returns
 returns c =
     let f = c.args.self.now in
     let style = c.args.style in
-    let all = all_of (IsToldFrom f style c.key_at-key.result) c.loop-other.other 1296 (omega arith)
+    let all = all_of (IsToldFrom f style c.key_at-key.result) c.loop-other.other 3888 (omega arith)
     c.loop-other.invariant in
-    subst (λ k. IsTrue true ↔ AllBelow (IsToldFrom f style k) 1296) c.key_at-key.ensures (λ t. all, λ h. refl)
+    subst (λ k. IsTrue true ↔ AllBelow (IsToldFrom f style k) 3888) c.key_at-key.ensures (λ t. all, λ h. refl)

@@ -10,7 +10,7 @@ abbrev IsApart : Symbols → Option ExponentForm → Type 0
 IsApart s x = IfSome x (λ form. IsSeparatorApart s form.separator.now)
 
 apart_by : (f : NumberFormatter) (x : Option ExponentForm) → CanReadExponents f x → IsApart f.style.symbols x
-apart_by f (Some form) can = can.1.separator
+apart_by f (Some form) can = can.1.1.separator
 apart_by f None can = absurd can
 
 -- a notation with words has no exponents
@@ -24,8 +24,8 @@ words_by f None words can = absurd can
 is_apart : (f : NumberFormatter) → CanReadNotation f → IsApart f.style.symbols (exponent_form f f.options.notation)
 is_apart f (inl standard) =
     subst (λ (n : NumberNotation). IsApart f.style.symbols (exponent_form f n)) (sym standard) tt
-is_apart f (inr (alone, inl can)) = apart_by f (exponent_form f f.options.notation) can
-is_apart f (inr (alone, inr can)) = words_by f (words_of f) refl can
+is_apart f (inr (inl can)) = apart_by f (exponent_form f f.options.notation) can
+is_apart f (inr (inr can)) = words_by f (words_of f) refl can
 
 pub invariant_of-result : goal.invariant_of-result
 invariant_of-result c =

@@ -1,5 +1,6 @@
-use Rattle.number_format.proofs.lemmas.read.CompactPatterns.{AreFirstPatterns}
+use Rattle.std.proofs.Common.{◌*◌}
+use Rattle.number_format.specs.CompactReading.{AreFirstPatterns}
 use Rattle.number_format.proofs.format.formatter.NumberFormatter.word_patterns.Given as goal
 
-abbrev pub invariant-loop-index : goal.invariant-loop-index
-invariant-loop-index l = AreFirstPatterns l.self l.style l.index l.patterns.items
+abbrev pub invariant-loop-row : goal.invariant-loop-row
+invariant-loop-row l = AreFirstPatterns l.self l.style (l.row * 216) l.patterns.items

@@ -1,5 +1,10 @@
-use Rattle.std.proofs.lemmas.{Bool.Decides.Decides-eqb, Slice.Eq.strip_prefix_is}
+use Rattle.std.proofs.{Common.{◌++◌, sym, ◌∙◌, ap}, lemmas.{Bool.Decides.Decides-eqb, Slice.Eq.strip_prefix_is}}
+use Rattle.number_format.proofs.lemmas.read.NamedAffixes.{none_is}
 use Rattle.number_format.proofs.read.scientific.scan.cut.Goals as goal
+
+pub returns-then-is_empty : goal.returns-then-is_empty
+returns-then-is_empty c =
+    ap (λ code. code ++ c.args.text.now) (sym (none_is c.args.code.now (sym c.is_empty.ensures ∙ c.if-is_empty.true)))
 
 pub returns : goal.returns
 returns c =

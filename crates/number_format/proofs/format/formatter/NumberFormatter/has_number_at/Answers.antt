@@ -1,0 +1,24 @@
+use Rattle.std.proofs.Common.{◌∙◌, sym, ap, arith}
+use Rattle.number_format.specs.{declared.read.compact.keys.CompactKey.CompactKey, CompactReading.inner_at}
+use Rattle.number_format.proofs.lemmas.read.CompactPatterns.{number_again, one_more, HasNumberAt}
+use Rattle.number_format.proofs.format.formatter.NumberFormatter.has_number_at.Goals as goal
+
+pub returns-then-repeats_in_row : goal.returns-then-repeats_in_row
+returns-then-repeats_in_row c =
+    let f = c.args.self.now in
+    let style = c.args.style in
+    let i = c.args.index in
+    let again = number_again f style i i (omega arith) c.requires.before
+    (c.repeats_in_row.ensures c.if-repeats_in_row.true) in
+    (λ t. one_more (HasNumberAt f style) i c.requires.before again, λ all. c.if-repeats_in_row.true)
+
+pub returns-else-repeats_in_row : goal.returns-else-repeats_in_row
+returns-else-repeats_in_row c =
+    let f = c.args.self.now in
+    let style = c.args.style in
+    let i = c.args.index in
+    let has = c.inner_at.ensures.has_number
+    ∙ ap (λ (k : CompactKey). (inner_at f style k).has_number) c.key_at.ensures in (
+      λ t. one_more (HasNumberAt f style) i c.requires.before (sym has ∙ t),
+      λ all. has ∙ all i (omega arith),
+    )

@@ -1,0 +1,5 @@
+use Rattle.number_format.specs.CompactReading.{AreFirstPatterns}
+use Rattle.number_format.proofs.format.formatter.NumberFormatter.push_words.Given as goal
+
+abbrev pub invariant-loop-index : goal.invariant-loop-index
+invariant-loop-index l = AreFirstPatterns l.self l.style l.index l.patterns.items

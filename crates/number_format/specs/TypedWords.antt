@@ -1,0 +1,168 @@
+-- Words of compact notation as people type them.
+use Rattle.std.specs.{Prelude.{◌≡◌, ◌≢◌, ℕ, zero, suc, ◌*◌, ◌<◌, ◌⊎◌, ◌==◌, Bool, true, not, ◌||◌, List, [], ◌∷◌, ◌++◌, map, filter, length, Option, None, Some, unwrap_or, slice_get, Result, Err, ℤ}, Str.{NonePass, chars, encode_utf8_all}, Char.Unicode.{Numeric.is_numeric, ToLowercase.to_lowercase}}
+use Rattle.decimal_unsigned.specs.declared.error.ParseError.{ParseError, TheVariants.Syntax}
+use Rattle.fixed_decimal.specs.Decimal.{Decimal}
+use Rattle.decimal_format.specs.declared.reader.alternatives.Alternative.{Alternative}
+use Rattle.locale_data.specs.{Compact.{pattern_for, compact_patterns, text_of}, declared.{compact.CompactStyle.CompactStyle, tables.rows.compact.CompactPattern.CompactPattern}}
+use Rattle.number_format.specs.{declared.{format.{formatter.NumberFormatter.NumberFormatter, outer.OuterTexts.OuterTexts}, read.compact.{keys.CompactKey.CompactKey, typed.TypedText.TypedText}}, AffixedTexts.{Reader, IsShifted, IsOrElse, IsReadWith}, CompactReading.{key_at, IsReadOrAny}, Scaled.exponent_at, TrimmedTexts.is_trimmed}
+
+-- ---- Words.
+
+-- where words are compared, white space, marks and periods are left out
+abbrev pub is_kept : ℕ → Bool
+is_kept c = not (is_trimmed c || c == 46)
+
+-- a letter in lower case; of two characters, as those of U+0130, the first
+abbrev pub lowered : ℕ → ℕ
+lowered c = unwrap_or (slice_get (to_lowercase c) 0) c
+
+-- what is compared: of ` MIO.` it is `mio`
+abbrev pub folded : List ℕ → List ℕ
+folded cs = map lowered (filter is_kept cs)
+
+-- nothing is left out at the start
+abbrev pub IsTrimmed : List ℕ → Type 0
+IsTrimmed cs = (c : ℕ) (rest : List ℕ) → cs ≡ c ∷ rest → is_kept c ≡ true
+
+-- characters begin with this folded word, and with what is left out after it; the rest follows
+pub record FollowsWord (word cs rest : List ℕ) : Type 0 where
+  pub typed : List ℕ
+  pub parts : cs ≡ typed ++ rest
+  pub same : folded typed ≡ word
+  pub whole : IsTrimmed rest
+
+-- the characters of a text up to its last digit, and those after it
+pub record IsCut (text front tail : List ℕ) : Type 0 where
+  pub parts : text ≡ encode_utf8_all (front ++ tail)
+  pub digit : (front ≡ []) ⊎ ((cs : List ℕ) × (c : ℕ) × (front ≡ cs ++ c ∷ []) × (is_numeric c ≡ true))
+  pub last : NonePass is_numeric tail
+
+-- without a word after the last digit, this is left of a text; `1.k` has no word, since a separator is not left out
+pub record IsWithoutWord (word front tail left : List ℕ) : Type 0 where
+  pub some : folded word ≢ []
+  pub begins : (cs : List ℕ) → tail ≢ 46 ∷ cs
+  pub rest : List ℕ
+  pub follows : FollowsWord (folded word) tail rest
+  pub is : left ≡ encode_utf8_all (front ++ rest)
+
+-- the word does not follow the last digit, or more than 255 bytes are left
+abbrev pub IsNoneLeft : List ℕ → List ℕ → List ℕ → Type 0
+IsNoneLeft word front tail =
+    ((left : List ℕ) → ¬ IsWithoutWord word front tail left)
+    ⊎ ((left : List ℕ) × IsWithoutWord word front tail left × (255 < length left))
+
+-- ---- Words of a formatter.
+
+-- the keys of words, for numbers without a sign: the magnitudes 2 to 19, each category, and 1 itself
+abbrev pub word_key : ℕ → CompactKey
+word_key i = key_at (18 * i)
+
+-- the text after a number, up to a currency; beside a unit or a name none, since `5m` may be meters or millions
+abbrev pub text_after : OuterTexts → Option CompactPattern → List ℕ
+text_after OuterTexts.None (Some p) = text_of p.suffix.before
+text_after texts pattern = []
+
+abbrev pub word_of : NumberFormatter → CompactStyle → ℕ → List ℕ
+word_of f style i =
+    text_after f.outer (pattern_for (word_key i).category (word_key i).is_one
+    (compact_patterns f.formats style (word_key i).magnitude))
+
+abbrev pub power_of : NumberFormatter → ℕ → ℤ
+power_of f i = exponent_at f.notation (word_key i).magnitude
+
+-- ---- Reading.
+
+-- a typed text and what it is read with: the reader of numbers without words, and what may be around these
+pub record Typing : Type 0 where
+  pub inline : ℕ
+  pub formatter : NumberFormatter
+  pub style : CompactStyle
+  pub plain : Reader
+  pub alternatives : List Alternative
+  pub text : List ℕ
+  pub front : List ℕ
+  pub tail : List ℕ
+
+-- what is read without a word, times its power of ten
+abbrev pub IsReadWithout : Typing → ℕ → Result Decimal ParseError → Type 0
+IsReadWithout t i result =
+    ((left : List ℕ) × IsWithoutWord (chars (word_of t.formatter t.style i)) t.front t.tail left
+    × IsShifted (power_of t.formatter i) (IsReadWith t.inline t.plain t.alternatives left) result)
+    ⊎ (IsNoneLeft (chars (word_of t.formatter t.style i)) t.front t.tail × (result ≡ Err Syntax))
+
+-- the meanings of a text: without a word, as the magnitude 2 has none, and by each word
+abbrev pub IsMeaning : Typing → ℕ → Result Decimal ParseError → Type 0
+IsMeaning t zero result = IsReadWith t.inline t.plain t.alternatives t.text result
+IsMeaning t (suc i) result = IsReadWithout t (suc i) result
+
+-- there is a number by this meaning
+abbrev pub Fits : Typing → ℕ → Type 0
+Fits t i = (found : Result Decimal ParseError) × IsMeaning t i found × (found ≢ Err Syntax)
+
+-- there is one by a meaning with another power of ten
+pub record HasOther (t : Typing) (power : ℤ) : Type 0 where
+  pub index : ℕ
+  pub listed : index < 216
+  pub differs : power_of t.formatter index ≢ power
+  pub fits : Fits t index
+
+abbrev pub HasNoOther : Typing → ℤ → Type 0
+HasNoOther t power = (i : ℕ) → i < 216 → power_of t.formatter i ≢ power → IsMeaning t i (Err Syntax)
+
+-- what is read by one of the meanings; `Syntax` if none has a number, or two with different powers of ten have
+abbrev pub IsOneMeaning : Typing → Result Decimal ParseError → Type 0
+IsOneMeaning t result =
+    (((i : ℕ) → i < 216 → IsMeaning t i (Err Syntax)) × (result ≡ Err Syntax))
+    ⊎ ((i : ℕ) × (i < 216) × Fits t i
+    × ((IsMeaning t i result × HasNoOther t (power_of t.formatter i))
+    ⊎ (HasOther t (power_of t.formatter i) × (result ≡ Err Syntax))))
+
+abbrev pub IsReadByWord : ℕ → NumberFormatter → CompactStyle → Reader → List Alternative → List ℕ
+    → Result Decimal ParseError → Type 0
+IsReadByWord inline f style plain all text result =
+    (front : List ℕ) × (tail : List ℕ) × IsCut text front tail × IsOneMeaning (record {
+      inline = inline;
+      formatter = f;
+      style = style;
+      plain = plain;
+      alternatives = all;
+      text = text;
+      front = front;
+      tail = tail;
+    }) result
+
+-- the result of reading a text as people type it: with the words that a formatter writes, or else with a typed word or
+-- none
+abbrev pub IsTypedInWords : ℕ → NumberFormatter → CompactStyle → Reader → List Alternative → List ℕ
+    → Result Decimal ParseError → Type 0
+IsTypedInWords inline f style plain all text result =
+    (words : Result Decimal ParseError) × IsReadOrAny inline f style text words
+    × IsOrElse words (IsShifted plain.shift (IsReadByWord inline f style plain all text)) result
+
+-- ---- Private: used only in the contracts of private functions.
+
+abbrev pub typing : ℕ → NumberFormatter → Reader → TypedText → Typing
+typing inline f plain t = record {
+  inline = inline;
+  formatter = f;
+  style = t.style;
+  plain = plain;
+  alternatives = t.alternatives.now;
+  text = t.text.now;
+  front = chars t.front.now;
+  tail = chars t.tail.now;
+}
+
+-- these characters without those left out at the start
+pub record IsSkipped (cs rest : List ℕ) : Type 0 where
+  pub out : List ℕ
+  pub parts : cs ≡ out ++ rest
+  pub none : folded out ≡ []
+  pub whole : IsTrimmed rest
+
+-- the first character that is not left out, and those after it
+pub record IsKeptFirst (cs : List ℕ) (c : ℕ) (rest : List ℕ) : Type 0 where
+  pub out : List ℕ
+  pub parts : cs ≡ out ++ c ∷ rest
+  pub none : folded out ≡ []
+  pub kept : is_kept c ≡ true
