@@ -142,7 +142,7 @@ def is_read_back(text, locale, number, options):
     try:
         value = form.read(text)
     except ValueError as error:
-        return "no reader" in str(error)
+        return str(error) == "unreadable format"
     again = form.format(value)
     # In compact notation the plural of a unit or a percent sign depends on digits that are not shown.
     return again == text or options.get("notation") == "compact" and form.read(again) == value
@@ -159,6 +159,8 @@ def known(locale, number, options, text):
     digits = max(len(re.sub("[^0-9]", "", it)) for it in numbers)
     if text and re.search("[\ud800-\udfff]", text):
         return "half of a digit in an exponent"
+    if len(numbers) > 1 and options.get("numberingSystem") == "latn":
+        return "a range by latn, which node writes in the locale's own digits"
     if increment > 1 and digits > 28:
         return "an increment and more than 34 digits"
     if compact and increment > 10:
