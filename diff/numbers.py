@@ -144,8 +144,9 @@ def is_read_back(text, locale, number, options):
     except ValueError as error:
         return str(error) == "unreadable format"
     again = form.format(value)
-    # In compact notation the plural of a unit or a percent sign depends on digits that are not shown.
-    return again == text or options.get("notation") == "compact" and form.read(again) == value
+    # In compact notation the plural of a unit, a name or a percent sign depends on digits that are not shown.
+    by_whole = options.get("notation") == "compact" and (options["style"] == "percent" or is_outer(options))
+    return again == text or by_whole and form.read(again) == value
 
 
 def is_azerbaijani(tag):
