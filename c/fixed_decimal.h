@@ -75,28 +75,28 @@ typedef enum fd_status {
     FD_UNKNOWN_UNIT = 24       /* Intl.NumberFormat has no unit with this name */
 } fd_status;
 
-/* An answer that is a text: status is an fd_status. */
+/* The result of a function that writes a text: status is an fd_status. */
 typedef struct fd_result {
     uint32_t status;
     size_t at;
     size_t count; /* FD_OK: bytes written; FD_BUFFER_TOO_SMALL: bytes needed; else 0 */
 } fd_result;
 
-/* An answer that is a number; it is 0 if status is not FD_OK. */
+/* The result of a function that returns a number; it is 0 if status is not FD_OK. */
 typedef struct fd_number {
     uint32_t status;
     size_t at;
     int64_t value;
 } fd_number;
 
-/* An answer that is an unsigned number; it is 0 if status is not FD_OK. */
+/* The result of a function that returns an unsigned number; it is 0 if status is not FD_OK. */
 typedef struct fd_unsigned {
     uint32_t status;
     size_t at;
     uint64_t value;
 } fd_unsigned;
 
-/* An answer that is a unit; its numbers are 0 if status is not FD_OK. */
+/* The result of a function that finds a unit; its numbers are 0 if status is not FD_OK. */
 typedef struct fd_units {
     uint32_t status;  /* FD_OK or FD_UNKNOWN_UNIT */
     uint8_t unit;     /* at least 1 */
@@ -109,14 +109,14 @@ typedef struct fd_key {
     uint64_t low;
 } fd_key;
 
-/* An answer that is a key; its halves are 0 if status is not FD_OK. */
+/* The result of a function that returns a key; its halves are 0 if status is not FD_OK. */
 typedef struct fd_keyed {
     uint32_t status;
     size_t at;
     fd_key key;
 } fd_keyed;
 
-/* An answer that is a column. */
+/* The result of a function that writes a column. */
 typedef struct fd_column {
     uint32_t status; /* FD_OK: all lines are converted; else why the next line is not */
     size_t at;       /* where the error is */
@@ -362,14 +362,15 @@ typedef struct fd_formatter {
     uint8_t tag[16]; /* the tag padded with spaces, or its first subtags: for ranges alone */
 } fd_formatter;
 
-/* An answer that is a formatter; its bytes are 0 if status is not FD_OK. */
+/* The result of a function that makes a formatter; its bytes are 0 if status is not FD_OK. */
 typedef struct fd_made {
     uint32_t status;
     size_t at;
     fd_formatter formatter;
 } fd_made;
 
-/* An answer that is the options of a formatter: FD_OK or FD_FORMATTER. Its bytes are 0 if status is not FD_OK. */
+/* The result of a function that returns the options of a formatter: FD_OK or FD_FORMATTER. Its bytes are 0 if status
+ * is not FD_OK. */
 typedef struct fd_resolution {
     uint32_t status;
     fd_format_options options;
@@ -410,7 +411,7 @@ typedef struct fd_part {
     size_t end;
 } fd_part;
 
-/* An answer that is a text and its parts. */
+/* The result of a function that writes a text and its parts. */
 typedef struct fd_parted {
     uint32_t status;
     size_t at;

@@ -165,7 +165,7 @@ if command -v sqlite3 > /dev/null && echo '#include <sqlite3ext.h>' | gcc -E -x 
   done
   rejects fixdec "'1x', 'trim-end'|start: syntax" "'10', 'trim-end', 'shift:32767'|call 1: overflow" \
     "'1', 'trimm'|no such call" "'1', 'round:0:up:1'|no such call" "'1', 'format:tlh'|unknown locale" \
-    "'1', 'round:0:ceil:3'|no such call" "'12', 'concat:25'|call 0: overlap" "'1', 'read:fr:KK'|skeleton: no reader" \
+    "'1', 'round:0:ceil:3'|no such call" "'12', 'concat:25'|call 0: overlap" "'1', 'read:it:KK'|skeleton: no reader" \
     "'1', 'format:de:'|no such call" "'1', 'read:de:lenient:'|no such call" "'1 USD', 'read:de:currency/EUR'|start: syntax" \
     "'x', 'read:de:percent/w'|skeleton: syntax at 7" "'x', 'format:de:percent/w'|skeleton: syntax at 7" "'1', 'format:tlh:K'|unknown locale" \
     "'1e32766', 'shift:1', 'format:en:scale/100'|format: overflow" "zeroblob(1000001)|start: syntax"
@@ -202,7 +202,7 @@ if command -v sqlite3 > /dev/null && echo '#include <sqlite3ext.h>' | gcc -E -x 
     "'en', 'numberingSystem', 'arab ', 5|no such option" "'en', 'numberingSystem', CAST(x'00' AS TEXT), 5|no such option" \
     "'en', 'numberingSystem', '', 5|unknown option"
   rejects read_number "'vec', 'notation', 'compact', '1'|no reader of such numbers" "'en', 'notation', 'standard', '1x'|start: syntax" \
-    "'fr', 'KK', '1'|skeleton: no reader" "'en', 'K', '1200'|start: syntax" "'en', 'percent/w', 'x'|skeleton: syntax at 7" "'en', 'style', '1'|skeleton: syntax at 0"
+    "'it', 'KK', '1'|skeleton: no reader" "'en', 'K', '1200'|start: syntax" "'en', 'percent/w', 'x'|skeleton: syntax at 7" "'en', 'style', '1'|skeleton: syntax at 0"
   # A formatter is kept for the rows with the same arguments before the number, and for no others.
   space=$'\u00a0'
   for amounts in "format_number('de', 'style', 'currency', 'currency', column1, column2)" "format_number('de', 'currency/' || column1, column2)"; do

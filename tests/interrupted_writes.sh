@@ -10,11 +10,13 @@ copy_programs fixdec fixdec_lines plural
 gcc -shared -fPIC -O1 -Wall -Wextra -Werror tests/interrupted_writes.c -o "$room/interrupted.so" -ldl
 judge $? 'tests/interrupted_writes.c compiles'
 
-# row STATUS TEXT LINES PROGRAM WORD..: the result of the words, on the input $room/in, is this.
+# row STATUS TEXT LINES PROGRAM WORD..: the result of the words, on the input $room/in, is this, and a write has been
+# interrupted.
 row() {
-  LD_PRELOAD=$room/interrupted.so "$room/$4" "${@:5}" < "$room/in" > "$room/out" 2> "$room/err"
+  LD_PRELOAD=$room/interrupted.so "$room/$4" "${@:5}" < "$room/in" > "$room/out" 2> "$room/err" 9> "$room/interruptions"
   local found=$?
-  [ "$found" = "$1" ] && [ "$(cat "$room/out"; echo .)" = "$2." ] && [ "$(cat "$room/err"; echo .)" = "$3." ]
+  [ "$found" = "$1" ] && [ "$(cat "$room/out"; echo .)" = "$2." ] && [ "$(cat "$room/err"; echo .)" = "$3." ] &&
+    [ -s "$room/interruptions" ]
   judge $? "${*:4}: status $found, $(wc -l < "$room/out") lines, $(head -c 200 "$room/err")"
 }
 

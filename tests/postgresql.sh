@@ -170,7 +170,7 @@ rejects '22023|skeleton: syntax at 7' "fixdec('x', 'read:de:percent/w')" "format
   "read_number('tlh', 'percent/w', 'x')"
 rejects '22023|skeleton: unsupported at 4' "format_number('en', '.00 rounding-mode-half-odd', 1)"
 rejects '22023|skeleton: syntax at 17' "format_number('en', 'numbering-system/none', 1)"
-rejects '22023|skeleton: no reader' "read_number('vec', 'K', '1')" "fixdec('1', 'read:fr:KK')"
+rejects '22023|skeleton: no reader' "read_number('vec', 'K', '1')" "fixdec('1', 'read:it:KK')"
 rejects '22023|rules: syntax at 8' "plural('one: n =', 1)"
 rejects '22023|rules: syntax at 0' "plural('en:nominal', 1)" "plural('', 1)"
 rejects '22023|rules: limit at 9' "plural('one: n = 18446744073709551616', 1)"

@@ -446,7 +446,8 @@ static void test_read_number(void) {
         {"12,5\xc2\xa0%", "fr", OPTIONS(.style = FD_PERCENT, .scale = 2), 0, FD_OK, "0.125"},
         {"EUR 1.234,5", "de", OPTIONS(MONEY("EUR")), 1, FD_OK, "1234.5"},
         {"EUR 1.234,5", "de", OPTIONS(MONEY("EUR")), 0, FD_SYNTAX, ""},
-        {"1", "fr", OPTIONS(.notation = FD_COMPACT_LONG), 1, FD_UNREADABLE_FORMAT, ""},
+        {"1", "it", OPTIONS(.notation = FD_COMPACT_LONG), 1, FD_UNREADABLE_FORMAT, ""},
+        {"mille", "fr", OPTIONS(.notation = FD_COMPACT_LONG), 0, FD_OK, "1000"},
         {"-1,25\xc2\xa0Mio.", "de", OPTIONS(.notation = FD_COMPACT_SHORT), 0, FD_OK, "-1250000"},
         {"1250 Tausend", "de", OPTIONS(.notation = FD_COMPACT_LONG), 0, FD_SYNTAX, ""},
         {"1250 Tausend", "de", OPTIONS(.notation = FD_COMPACT_LONG), 1, FD_OK, "1250000"},
@@ -676,7 +677,8 @@ static void test_read_by_skeleton(void) {
         {"1200", "es", "K", 0, FD_SYNTAX, NULL},
         {"1200", "es", "K", 1, FD_OK, "1200"},
         {"x", "vec", "K", 1, FD_UNREADABLE_FORMAT, NULL},
-        {"mille", "fr", "KK", 1, FD_UNREADABLE_FORMAT, NULL},
+        {"mille", "it", "KK", 1, FD_UNREADABLE_FORMAT, NULL},
+        {"mille", "fr", "KK", 0, FD_OK, "1000"},
         {"x", "xx", "K", 0, FD_UNKNOWN_LOCALE, NULL},
         {"x", "xx", "percent/w", 0, FD_SKELETON_SYNTAX, NULL}};
     for (size_t i = 0; i < sizeof rows / sizeof *rows; i++) {
@@ -710,7 +712,7 @@ static void test_skeleton_forms(void) {
     forms.format = (fd_form){.start = 3, .count = 1, .skeleton_start = 2, .skeleton_count = 1};
     CHECK(fd_convert(B("x"), &forms, FD_NONE(fd_call), 0, B("deK"), b, 64).status == FD_UNKNOWN_LOCALE);
     forms.read.skeleton_start = 2, forms.read.skeleton_count = 2;
-    CHECK(fd_convert(B("x"), &forms, FD_NONE(fd_call), 0, B("frKK"), b, 64).status == FD_UNREADABLE_FORMAT);
+    CHECK(fd_convert(B("x"), &forms, FD_NONE(fd_call), 0, B("itKK"), b, 64).status == FD_UNREADABLE_FORMAT);
     forms.read.skeleton_count = 1;
     forms.read.skeleton_start = 3;
     CHECK(fd_convert(B("x"), &forms, FD_NONE(fd_call), 0, B("deK"), b, 64).status == FD_SKELETON_SYNTAX);

@@ -214,10 +214,9 @@ static void convert(sqlite3_context *context, int count, sqlite3_value **values)
     int kind = called->kind;
     input in = {.text = {NULL, 0}};
     uint8_t buffer[128], *out = buffer;
-    fd_result answer = {.status = FD_BUFFER_TOO_SMALL, .count = sizeof buffer};
     if ((kind == WORDS && count == 0) || is_any_null(count, values)) return;
     if (get_input(context, called, &in, count, values)) {
-        answer = run(kind, &in, buffer, sizeof buffer);
+        fd_result answer = run(kind, &in, buffer, sizeof buffer);
         if (answer.status == FD_BUFFER_TOO_SMALL && (out = sqlite3_malloc64(answer.count)))
             answer = run(kind, &in, out, answer.count);
         if (!out) sqlite3_result_error_nomem(context);

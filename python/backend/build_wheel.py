@@ -98,7 +98,7 @@ def interpreter(is_limited):
     if is_limited:
         return f"cp{OLDEST[0]}{OLDEST[1]}-abi3"
     version = "cp" + sysconfig.get_config_var("py_version_nodot")
-    return f"{version}-{version}"
+    return f"{version}-{version}{sys.abiflags}"
 
 
 def build_wheel(wheel_directory, config_settings=None, metadata_directory=None):

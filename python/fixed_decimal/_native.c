@@ -1289,7 +1289,7 @@ static void *convert(void *argument) {
     Block *block = argument;
     const Work *work = block->work;
     const fd_formatter *formatter = work->format ? &((NumberFormat *)work->format)->formatter : NULL;
-    int has_calls = work->call_count || work->forms.read.count;
+    int has_calls = work->call_count || work->forms.read.count || work->forms.read.skeleton_count;
     if (!formatter || has_calls)
         block->answer = convert_lines(work, NULL, &block->input, formatter ? &block->called : &block->output);
     if (!formatter || (has_calls && block->answer.status == FD_MEMORY)) return NULL;
@@ -1531,8 +1531,8 @@ PyDoc_STRVAR(shift_text, "shift($self, power, /)\n--\n\n"
 PyDoc_STRVAR(trim_text, "trim($self, /)\n--\n\n"
 "Removes leading zeros, and trailing zeros of the fraction.\n\n"
 ">>> Decimal('007.50').trim()\nDecimal('7.5')\n");
-PyDoc_STRVAR(pad_text, "pad($self, /, start=0, end=0)\n--\n\n"
-"Shows zeros below the position start, and down to the position end.\n\n"
+PyDoc_STRVAR(pad_text, "pad($self, /, start=..., end=...)\n--\n\n"
+"Shows zeros below the position start, and down to the position end. On a side without a position the zeros stay.\n\n"
 ">>> Decimal('42').pad(4, -2)\nDecimal('0042.00')\n");
 PyDoc_STRVAR(sign_text, "sign($self, display, /)\n--\n\n"
 "Sets the sign that a display shows: auto, never, always, except-zero or negative.\n\n"
@@ -1551,7 +1551,7 @@ PyDoc_STRVAR(dunder_round_text, "__round__($self, ndigits=None, /)\n--\n\n"
 PyDoc_STRVAR(compare_text, "compare($self, other, /)\n--\n\n"
 "Returns the order of two numbers: -1, 0 or 1.\n\n"
 ">>> Decimal('1.0').compare(Decimal('1'))\n0\n");
-PyDoc_STRVAR(format_text, "format($self, /, locale, grouping='auto', skeleton=None, **options)\n--\n\n"
+PyDoc_STRVAR(format_text, "format($self, /, locale, grouping='auto', *, skeleton=None, **options)\n--\n\n"
 "Returns the text in the form of a locale.\n\n"
 ">>> Decimal('1234567.50').format('de')\n'1.234.567,50'\n"
 ">>> Decimal('1234567.50').format('de', grouping='never')\n'1234567,50'\n\n"

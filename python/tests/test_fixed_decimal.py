@@ -223,6 +223,8 @@ def test_class():
         (str(Decimal("1234.565").round(-2)), "1234.56"), (str(Decimal("113").round(0, increment=25)), "125"),
         (str(Decimal("113").round(position=0, mode="ceil", increment=2)), "114"),
         (str(Decimal("42").pad(4, -2)), "0042.00"), (str(Decimal("42").pad(end=-1)), "42.0"),
+        (str(Decimal("42.00").pad(4)), "0042.00"), (str(Decimal("42.00").pad(4, 0)), "0042"),
+        ([it.default for it in inspect.signature(Decimal.pad).parameters.values()][1:], [..., ...]),
         (str(Decimal("007.50").trim()), "7.5"), (str(Decimal("5").sign("always")), "+5"),
         (Decimal("1234567.5").format("en-IN"), "12,34,567.5"), (Decimal("1234.5").format("de"), "1.234,5"),
         (Decimal("1234.5").format("de", grouping="never"), "1234,5"), (Decimal("1234").format("hi-u-nu-deva"), "१,२३४"),
@@ -283,7 +285,8 @@ def test_class():
     raises(DecimalError, lambda: Decimal.read("1", "tlh"), "unknown locale")
     raises(DecimalError, lambda: Decimal.read("\ud800", "de"), "syntax")
     raises(DecimalError, lambda: Decimal.read("1", "de", skeleton="percent/w"), "skeleton syntax")
-    raises(DecimalError, lambda: Decimal.read("mille", "fr", skeleton="KK"), "unreadable format")
+    raises(DecimalError, lambda: Decimal.read("mille", "it", skeleton="KK"), "unreadable format")
+    check(str(Decimal.read("mille", "fr", skeleton="KK")) == "1000", "a word without a number")
     raises(DecimalError, lambda: Decimal.read("EUR 1", "de", skeleton="currency/EUR"), "syntax")
     raises(DecimalError, lambda: Decimal.read("1250K", "en", skeleton="K"), "syntax")
     raises(TypeError, lambda: Decimal.read("1", "de", skeleton="percent", style="percent"))
@@ -401,14 +404,18 @@ def test_stub():
     classes = {node.name: node.body for node in tree.body if isinstance(node, ast.ClassDef)}
     homes = (fixed_decimal, tree.body), (Decimal, classes["Decimal"]), (NumberFormat, classes["NumberFormat"])
     for home, body in homes:
-        stubs = {}
+        stubs, keywords = {}, {}
         for node in body:
             if isinstance(node, ast.FunctionDef) and not node.name.startswith("__"):
                 found = node.args.posonlyargs + node.args.args + node.args.kwonlyargs
                 found += [it for it in (node.args.vararg, node.args.kwarg) if it]
                 stubs.setdefault(node.name, set()).update(it.arg for it in found)
+                keywords.setdefault(node.name, set()).update(it.arg for it in node.args.kwonlyargs)
         for name, parameters in stubs.items():
-            check(set(inspect.signature(getattr(home, name)).parameters) == parameters, "the stub of", name, parameters)
+            found = inspect.signature(getattr(home, name)).parameters
+            check(set(found) == parameters, "the stub of", name, parameters)
+            found = {it.name for it in found.values() if it.kind is it.KEYWORD_ONLY}
+            check(found == keywords[name], "the keywords of", name, found)
         own = [name for name, value in vars(home).items() if callable(value) and not name.startswith("_")]
         check(set(own) - classes.keys() <= stubs.keys(), "the stub", home, own)
     names = [name for name in vars(fixed_decimal) if name in fixed_decimal.__all__]
@@ -989,6 +996,8 @@ def test_column(cases):
     raises(DecimalError, lambda: column([], read="tlh"), "unknown locale")
     raises(DecimalError, lambda: column([], format="de", skeleton="percent/w"), "skeleton syntax")
     raises(DecimalError, lambda: column([], skeleton="percent"), "unknown locale")
+    for options in ({}, {"format": "de"}, {"format": NumberFormat("de")}, {"format": "de", "style": "percent"}):
+        raises(DecimalError, lambda: column(["1"], read_skeleton="percent", **options), "unknown locale")
     raises(DecimalError, lambda: column([], read="vec", read_skeleton="K"), "unreadable format")
     # The first text that fails, in the calls or in the format, and its number.
     scaled = NumberFormat("en", skeleton="scale/100")

@@ -156,7 +156,8 @@ impl Decimal {
     /// let value = Decimal::read_number("de", "currency/EUR", "-1.234,50\u{a0}€")?;
     /// assert_eq!(value.to_string(), "-1234.50");
     /// assert_eq!(Decimal::read_number("es", "K", "1,2\u{a0}mil")?.to_string(), "1200");
-    /// assert_eq!(Decimal::read_number("fr", "KK", "mille"), Err(NumberReadError::Unreadable));
+    /// assert_eq!(Decimal::read_number("fr", "KK", "mille")?.to_string(), "1000");
+    /// assert_eq!(Decimal::read_number("it", "KK", "mille"), Err(NumberReadError::Unreadable));
     /// # Ok::<(), NumberReadError>(())
     /// ```
     pub fn read_number(locale: &str, skeleton: &str, text: &str) -> Result<Self, NumberReadError> {

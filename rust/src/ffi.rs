@@ -303,7 +303,7 @@ impl Deref for Formatted {
 
     fn deref(&self) -> &str {
         match self {
-            // SAFETY: `format` alone makes it, of the UTF-8 that `fd_format` writes.
+            // SAFETY: `formatted` alone makes it, of the UTF-8 that `fd_format` or `fd_format_range` writes.
             Formatted::InPlace { count, bytes } => unsafe {
                 std::str::from_utf8_unchecked(&bytes[..usize::from(*count)])
             },

@@ -474,6 +474,8 @@ fn errors_of_number_formats() {
     assert_eq!(compact.read("1250K"), Err(NumberReadError::Text(ParseError::Syntax)));
     assert_eq!(compact.read_lenient("1250K"), Ok(decimal("1250000")));
     let words = NumberFormat::new("fr", &Options::compact(CompactLength::Long)).unwrap();
+    assert_eq!(words.read("mille"), Ok(decimal("1000")));
+    let words = NumberFormat::new("it", &Options::compact(CompactLength::Long)).unwrap();
     assert_eq!(words.read("mille"), Err(NumberReadError::Unreadable));
     assert_eq!(scaled.read("5"), Err(NumberReadError::Text(ParseError::Syntax)));
     assert_eq!(scaled.read_lenient("5"), Ok(decimal("0.05")));

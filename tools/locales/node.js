@@ -75,6 +75,11 @@ function hasWords(tag, system) {
   return /^az(-AZ|-Latn|$)/.test(tag) && system.startsWith('arab');
 }
 
+// The tag in a numbering system.
+function tagIn(tag, system) {
+  return `${tag}${tag.includes('-u-') ? '' : '-u'}-nu-${system}`;
+}
+
 // What precedes the digit in the text of a number of one digit, without words. No locale has anything after it.
 function signOf(tag, number) {
   const parts = new Intl.NumberFormat(tag, {signDisplay: 'always'}).formatToParts(number);
@@ -96,11 +101,11 @@ function fieldsOf(tag) {
 
 function rowsOf(tag, systems, root) {
   const byDefault = new Intl.NumberFormat(tag).resolvedOptions().numberingSystem;
-  const latin = fieldsOf(`${tag}-u-nu-latn`);
+  const latin = fieldsOf(tagIn(tag, 'latn'));
   const rows = [['latn', byDefault === 'latn', latin]];
   for (const [system] of systems) {
     if (system === 'latn') continue;
-    const fields = fieldsOf(`${tag}-u-nu-${system}`);
+    const fields = fieldsOf(tagIn(tag, system));
     const expected = [...(root.get(system) ?? latin.slice(0, 4)), ...latin.slice(4)];
     const isDefault = system === byDefault;
     if (fields.join('\t') !== expected.join('\t') || isDefault) rows.push([system, isDefault, fields]);
@@ -141,7 +146,7 @@ function main(mode) {
     for (const [tag, system, isDefault] of listed) {
       // `en-US-posix` is another tag of `en-US-u-va-posix`.
       if (tag === 'root' || tag === 'en-US-posix' || hasWords(tag, system)) continue;
-      const named = isDefault ? tag : `${tag}-u-nu-${system}`;
+      const named = isDefault ? tag : tagIn(tag, system);
       for (const [strategy, useGrouping] of STRATEGIES) {
         // ICU groups by threes here, where the locale has no groups. ICU4X does not.
         if (tag === 'en-US-u-va-posix' && strategy === 'always') continue;

@@ -21,18 +21,22 @@ struct FdCall {
     text_count: usize,
 }
 
+/// An `fd_formatter`: 152 bytes.
+type FdFormatter = [u64; 19];
+
 #[repr(C)]
 struct FdMade {
     status: u32,
     at: usize,
-    formatter: [u64; 17],
+    formatter: FdFormatter,
 }
 
 extern "C" {
+    fn fd_version() -> u32;
     fn fd_formatter_by_options(tag: *const u8, tag_count: usize, options: *const Options) -> FdMade;
     #[rustfmt::skip]
     fn fd_format(
-        formatter: *const [u64; 17], text: *const u8, count: usize, buffer: *mut u8, capacity: usize,
+        formatter: *const FdFormatter, text: *const u8, count: usize, buffer: *mut u8, capacity: usize,
     ) -> FdResult;
     #[rustfmt::skip]
     fn fd_run(
@@ -81,6 +85,8 @@ fn format_row(name: &str, locale: &str, options: &Options) {
 }
 
 fn main() {
+    // SAFETY: the function takes nothing.
+    assert_eq!(unsafe { fd_version() }, 8, "the structs are those of the library");
     println!("|`NumberFormat::format` of 1234.5|crate, ns|and `write!`, ns|fd_format, ns|ratio|\n|---|---|---|---|---|");
     for locale in ["en", "de", "hi", "ar-EG", "ja"] {
         format_row("currency", locale, &Options::currency("EUR".parse().expect("a code")));

@@ -1,5 +1,5 @@
-//! `fixdec TEXT [read:LOCALE] [CALL].. [format:LOCALE]` reads a decimal, makes the calls in order, and prints the
-//! result.
+//! `fixdec TEXT [to:END] [read:LOCALE] [CALL].. [format:LOCALE]` reads a decimal, makes the calls in order, and prints
+//! the result, or the range to another decimal.
 //!
 //! `fixdec 250 shift:-2` prints `2.50`.
 #![tactic(auto)]

@@ -6,7 +6,6 @@ pub mod keys
 pub mod lines
 pub mod locales
 pub mod parts
-pub mod ranges
 pub mod styles
 pub mod texts
 pub mod units

@@ -25,7 +25,7 @@ pub(crate) const NO_LINE: Progress = Progress {
     failed: 0,
 };
 
-/// An answer that is a text in a buffer.
+/// The result of a function that writes a text to a buffer.
 #[repr(C)]
 #[derive(Clone, Copy)]
 pub struct FdResult {
@@ -37,7 +37,7 @@ pub struct FdResult {
     pub count: usize,
 }
 
-/// An answer that is a number.
+/// The result of a function that returns a number.
 #[repr(C)]
 #[derive(Clone, Copy)]
 pub struct FdNumber {
@@ -49,7 +49,7 @@ pub struct FdNumber {
     pub value: i64,
 }
 
-/// An answer that is an unsigned number.
+/// The result of a function that returns an unsigned number.
 #[repr(C)]
 #[derive(Clone, Copy)]
 pub struct FdUnsigned {
@@ -61,7 +61,7 @@ pub struct FdUnsigned {
     pub value: u64,
 }
 
-/// An answer that is a column.
+/// The result of a function that writes a column to a buffer.
 #[repr(C)]
 #[derive(Clone, Copy)]
 pub struct FdColumn {

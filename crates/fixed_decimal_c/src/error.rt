@@ -4,7 +4,7 @@ ghost use Rattle.fixed_decimal_c.specs.Errors.{status_of, place_of, needed_of, e
 
 use fixed_decimal::{ParseError, RunError};
 
-/// Why an export has no answer. A text has the number 0, and the second text of a comparison 1.
+/// Why a function of the C library fails. A text has the number 0, and the second text of a comparison 1.
 #[derive(Clone, Copy)]
 pub enum FdError {
     /// The text with this number is not in the grammar.

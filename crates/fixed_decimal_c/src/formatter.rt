@@ -25,7 +25,7 @@ pub struct FdFormatter {
     pub tag: [u8; 16],
 }
 
-/// An answer that is a formatter.
+/// The result of a function that makes a formatter.
 #[repr(C)]
 #[derive(Clone, Copy)]
 pub struct FdMade {
@@ -37,7 +37,7 @@ pub struct FdMade {
     pub formatter: FdFormatter,
 }
 
-/// An answer that is the options of a formatter.
+/// The result of a function that returns the options of a formatter.
 #[repr(C)]
 #[derive(Clone, Copy)]
 pub struct FdResolution {

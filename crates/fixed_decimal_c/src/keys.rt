@@ -19,7 +19,7 @@ pub struct FdKey {
     pub low: u64,
 }
 
-/// An answer that is a key.
+/// The result of a function that returns a key.
 #[repr(C)]
 #[derive(Clone, Copy)]
 pub struct FdKeyed {

@@ -26,7 +26,7 @@ pub struct FdPart {
     pub end: usize,
 }
 
-/// An answer that is a text and its parts.
+/// The result of a function that writes a text and its parts.
 #[repr(C)]
 #[derive(Clone, Copy)]
 pub struct FdParted {

@@ -16,19 +16,16 @@ use number_format::{NumberFormatter, RangeFormatError, RangeTexts};
 use std::alloc::Global;
 use std::str;
 
-/// Returns the numbering system with a name, or else that of rows, and `None` if there are no such rows.
-fn system_at(id: LocaleId, name: &Option<NumberingSystem>) -> Option<NumberingSystem>
-    ensures some { IfSome result (λ system. system_text id name.now ≡ Some system) }
+/// Returns the name of a numbering system, or else that of rows, and `None` if there are no such rows.
+fn system_text(id: LocaleId, name: &Option<NumberingSystem>) -> Option<&str>
+    ensures some { IfSome result (λ system. system_text id name.now ≡ Some system.now) }
     ensures none { IfNone result (symbols_at id ≡ None) }
 {
     match name {
-        Some(name) => Some(*name),
+        Some(name) => Some(name.as_str()),
         None => {
             let own = system_name_at(id)?;
-            match NumberingSystem::try_from_str(own) {
-                Ok(system) => Some(system),
-                Err(_) => None,
-            }
+            Some(own)
         }
     }
 }
@@ -45,13 +42,13 @@ impl FdFormatter {
         let Some(formatter) = NumberFormatter::ranges_at(&ids, &options) else {
             return None;
         };
-        let Some(system) = system_at(ids.symbols, &options.numbering_system) else {
+        let Some(system) = system_text(ids.symbols, &options.numbering_system) else {
             return None;
         };
         let Ok(tag) = str::from_utf8(unpadded(&self.tag)) else {
             return None;
         };
-        match RangeTexts::of(tag, &Some(system)) {
+        match RangeTexts::in_system(tag, system) {
             Some(texts) => Some((formatter, texts)),
             None => None,
         }

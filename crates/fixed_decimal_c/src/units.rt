@@ -8,7 +8,7 @@ use crate::texts::deliver;
 use locale_names::{Unit, UnitId};
 use std::str;
 
-/// An answer that is a unit.
+/// The result of a function that finds a unit.
 #[repr(C)]
 #[derive(Clone, Copy)]
 pub struct FdUnits {

@@ -1,11 +1,11 @@
 -- Numbers in compact notation: the texts around them, and which are read.
 use Rattle.std.specs.{Prelude.{◌≡◌, ℕ, zero, suc, ◌<◌, ◌/◌, ◌%◌, ◌+◌, ◌==◌, Bool, true, false, ◌&&◌, if◌then◌else◌, ◌⊎◌, List, ◌++◌, Option, None, Some, is_none, Result, Ok, Err, ℤ, pos, ◌+ℤ◌, ◌-ℤ◌}, Int.int_min, List.Contains}
 use Rattle.decimal_digits.specs.Number.{first}
-use Rattle.decimal_unsigned.specs.{Unsigned.Unsigned, declared.error.ParseError.{ParseError, TheVariants.Syntax}}
+use Rattle.decimal_unsigned.specs.{Unsigned.{Unsigned, one_value}, declared.error.ParseError.{ParseError, TheVariants.Syntax}}
 use Rattle.fixed_decimal.specs.{Decimal.Decimal, declared.variations.Sign.Sign}
 use Rattle.plural_rules.specs.Operands as operands
 use Rattle.plural_rules.specs.declared.rules.PluralCategory.{PluralCategory}
-use Rattle.decimal_format.specs.{Formatted.absolute_text, Readable.IsReadable, Reading.IsRead, Symbols.affixes, declared.grouping.GroupingStrategy.GroupingStrategy}
+use Rattle.decimal_format.specs.{Formatted.absolute_text, Readable.{BeginsWithDigit, IsReadable}, Reading.IsRead, Symbols.{Symbols, affixes}, declared.grouping.GroupingStrategy.GroupingStrategy}
 use Rattle.locale_data.specs.{Compact.{pattern_for, compact_patterns}, Plurals.IsCategoryAt, declared.{compact.CompactStyle.CompactStyle, tables.rows.compact.CompactPattern.CompactPattern}}
 use Rattle.number_format.specs.{declared.{format.formatter.NumberFormatter.NumberFormatter, notation.Notation.Notation, read.{compact.keys.CompactKey.CompactKey, pattern.NumberPattern.NumberPattern}}, AffixedTexts.{AreNamed, AreSame, AreToldApart, Reader, between, shifted, IsWritten, IsWrittenBy, IsNumeral, IsShifted, IsOrElse}, NumberText.{around_by, outer_by}, PatternTexts.Around, Scaled.{exponent_at, IsOrdered}, TextParts.pieces_text}
 
@@ -26,19 +26,70 @@ word_pattern f style k = record {
   exponent = exponent_at f.notation k.magnitude;
 }
 
--- each text has the number: no text as `mille` replaces it
+-- the number is between the texts, or they are the whole text, as `mille`
+abbrev pub has_number_at : NumberFormatter → CompactStyle → CompactKey → Bool
+has_number_at f style k = (inner_at f style k).has_number
+
+-- the text of a pattern without the number
+abbrev pub whole_text : NumberPattern → List ℕ
+whole_text p = p.affixes.prefix ++ p.affixes.suffix
+
+-- no digit is in the text
+abbrev pub HasNoDigit : Symbols → List ℕ → Type 0
+HasNoDigit s text = (a b : List ℕ) → text ≡ a ++ b → ¬ BeginsWithDigit s b
+
+-- the texts of a key are a whole text, which is that of the pattern
+pub record IsWholeText (f : NumberFormatter) (style : CompactStyle) (p : NumberPattern) (k : CompactKey) : Type 0 where
+  pub one : k.is_one ≡ true
+  pub none : has_number_at f style k ≡ false
+  pub same : whole_text p ≡ whole_text (word_pattern f style k)
+
+-- if the key has the whole text of the pattern, it has the same sign and power of ten
+abbrev pub HasMeaningOf : NumberFormatter → CompactStyle → NumberPattern → CompactKey → Type 0
+HasMeaningOf f style p k =
+    IsWholeText f style p k → (p.sign ≡ k.sign) × (p.exponent ≡ exponent_at f.notation k.magnitude)
+
+-- the whole text of the pattern has one meaning
+abbrev pub HasOneMeaning : NumberFormatter → CompactStyle → NumberPattern → Type 0
+HasOneMeaning f style p = (k : CompactKey) → HasMeaningOf f style p k
+
+-- a whole text is that of the number 1 alone; it has no digit, and one meaning
+pub record IsReadWhole (f : NumberFormatter) (style : CompactStyle) (k : CompactKey) : Type 0 where
+  pub one : k.is_one ≡ true
+  pub no_digit : HasNoDigit f.style.symbols (whole_text (word_pattern f style k))
+  pub meaning : HasOneMeaning f style (word_pattern f style k)
+
+-- the key has the number, or a whole text that is read
+abbrev pub HasNumberOr : NumberFormatter → CompactStyle → CompactKey → Type 0
+HasNumberOr f style k = has_number_at f style k ≡ false → IsReadWhole f style k
+
+-- each key has the number, or a whole text that is read
 abbrev pub HasWordNumbers : NumberFormatter → CompactStyle → Type 0
-HasWordNumbers f style = (k : CompactKey) → (inner_at f style k).has_number ≡ true
+HasWordNumbers f style = (k : CompactKey) → HasNumberOr f style k
 
--- each two patterns are told apart
+-- the patterns are told apart if both have the number
+abbrev pub AreKeysApart : NumberFormatter → CompactStyle → CompactKey → CompactKey → Type 0
+AreKeysApart f style k l =
+    has_number_at f style k ≡ true → has_number_at f style l ≡ true
+    → AreToldApart f.style.symbols (word_pattern f style k) (word_pattern f style l)
+
+-- each two patterns with the number are told apart
 abbrev pub AreWordsNamed : NumberFormatter → CompactStyle → Type 0
-AreWordsNamed f style =
-    (k l : CompactKey) → AreToldApart f.style.symbols (word_pattern f style k) (word_pattern f style l)
+AreWordsNamed f style = (k l : CompactKey) → AreKeysApart f style k l
 
--- these are all patterns, and no others
-pub record AreWordPatterns (f : NumberFormatter) (style : CompactStyle) (patterns : List NumberPattern) : Type 0 where
-  pub all : (k : CompactKey) → Contains patterns (word_pattern f style k)
-  pub only : (p : NumberPattern) → Contains patterns p → (k : CompactKey) × (p ≡ word_pattern f style k)
+-- the pattern is that of a key with the number, or of one without it
+pub record IsPatternOf (f : NumberFormatter) (style : CompactStyle) (has_number : Bool) (p : NumberPattern)
+    : Type 0 where
+  pub key : CompactKey
+  pub has : has_number_at f style key ≡ has_number
+  pub is : p ≡ word_pattern f style key
+
+-- these are all patterns with the number, or all without it, and no others
+pub record AreWordPatterns (f : NumberFormatter) (style : CompactStyle) (has_number : Bool)
+    (patterns : List NumberPattern) : Type 0 where
+  pub all :
+      (k : CompactKey) → has_number_at f style k ≡ has_number → Contains patterns (word_pattern f style k)
+  pub only : (p : NumberPattern) → Contains patterns p → IsPatternOf f style has_number p
 
 -- the exponents are those of compact patterns, and ordered: none is above its magnitude or above the next one
 abbrev pub HasCompactExponents : Notation → Type 0
@@ -67,6 +118,7 @@ pub record IsOwnKey (f : NumberFormatter) (v : Decimal) (k : CompactKey) : Type 
 pub record IsOwnPattern (f : NumberFormatter) (style : CompactStyle) (v : Decimal) (p : NumberPattern) : Type 0 where
   pub key : CompactKey
   pub own : IsOwnKey f v key
+  pub has : has_number_at f style key ≡ true
   pub is : AreSame p (word_pattern f style key)
 
 -- the formatter writes the significand with this text, and the power of ten
@@ -74,9 +126,30 @@ pub record IsShownInWords (f : NumberFormatter) (style : CompactStyle) (text : L
     : Type 0 where
   pub key : CompactKey
   pub own : IsOwnKey f v key
+  pub has : has_number_at f style key ≡ true
   pub exponent : exponent_at f.notation key.magnitude ≡ e
   pub strategy : GroupingStrategy
   pub is : text ≡ between (word_pattern f style key) (absolute_text f.style.symbols strategy v.absolute)
+
+-- the number 1 with the sign of a key
+abbrev pub one_of : CompactKey → Decimal
+one_of k = record { sign = k.sign; absolute = one_value }
+
+-- the text is the whole text of a key
+pub record IsWholeOf (f : NumberFormatter) (style : CompactStyle) (text : List ℕ) (k : CompactKey) : Type 0 where
+  pub none : has_number_at f style k ≡ false
+  pub is : text ≡ whole_text (word_pattern f style k)
+
+-- the text is the whole text of no key
+abbrev pub IsNoWhole : NumberFormatter → CompactStyle → List ℕ → Type 0
+IsNoWhole f style text = (k : CompactKey) → ¬ IsWholeOf f style text k
+
+-- w is what the text says of a significand u: u itself, or 1 without its zeros if the text is a whole one
+abbrev pub IsSaid : NumberFormatter → CompactStyle → List ℕ → Decimal → Decimal → Type 0
+IsSaid f style text u w =
+    (IsNoWhole f style text × (w ≡ u))
+    ⊎ ((k : CompactKey) × IsWholeOf f style text k × (is_unit u.absolute ≡ true)
+    × (w ≡ record { sign = u.sign; absolute = one_value }))
 
 -- ---- Reading.
 
@@ -106,13 +179,20 @@ IsTimes r text (Err e) result = result ≡ Err e
 abbrev pub IsReadBetween : ℕ → NumberFormatter → CompactStyle → List ℕ
     → (Reader → Result Decimal ParseError → Type 0) → Type 0
 IsReadBetween inline f style text P =
-    (patterns : List NumberPattern) × (found : Result Decimal ParseError) × AreWordPatterns f style patterns
+    (patterns : List NumberPattern) × (found : Result Decimal ParseError) × AreWordPatterns f style true patterns
     × IsRead inline (IsNumeral (word_reader f patterns) text) (IsWritten (word_reader f patterns) text) found
     × P (word_reader f patterns) found
 
+abbrev pub IsReadByNumber : ℕ → NumberFormatter → CompactStyle → List ℕ → Result Decimal ParseError → Type 0
+IsReadByNumber inline f style text result =
+    IsReadBetween inline f style text (λ r found. IsOwnInWords f style text found result)
+
+-- the same; a whole text is 1 times its power of ten
 abbrev pub IsReadShownInWords : ℕ → NumberFormatter → CompactStyle → List ℕ → Result Decimal ParseError → Type 0
 IsReadShownInWords inline f style text result =
-    IsReadBetween inline f style text (λ r found. IsOwnInWords f style text found result)
+    ((k : CompactKey) × IsWholeOf f style text k
+    × (result ≡ shifted (exponent_at f.notation k.magnitude) (Ok (one_of k))))
+    ⊎ (IsNoWhole f style text × IsReadByNumber inline f style text result)
 
 abbrev pub IsReadInAnyWords : ℕ → NumberFormatter → CompactStyle → List ℕ → Result Decimal ParseError → Type 0
 IsReadInAnyWords inline f style text result =
@@ -177,32 +257,34 @@ IsSameBefore f style m =
 -- two keys have the same texts
 pub record AreAlike (f : NumberFormatter) (style : CompactStyle) (k l : CompactKey) : Type 0 where
   pub pattern : word_pattern f style k ≡ word_pattern f style l
-  pub has_number : (inner_at f style k).has_number ≡ (inner_at f style l).has_number
+  pub has_number : has_number_at f style k ≡ has_number_at f style l
+  pub one : k.is_one ≡ true → l.is_one ≡ true
 
 -- a key with a smaller index has the same texts
 abbrev pub RepeatsAnother : NumberFormatter → CompactStyle → ℕ → Type 0
 RepeatsAnother f style i = (j : ℕ) × (j < i) × AreAlike f style (key_at j) (key_at i)
 
--- the keys with smaller indexes have the number
+-- the keys with smaller indexes have the number, or a whole text that is read
 abbrev pub HaveNumbersBelow : NumberFormatter → CompactStyle → ℕ → Type 0
-HaveNumbersBelow f style n = (i : ℕ) → i < n → (inner_at f style (key_at i)).has_number ≡ true
+HaveNumbersBelow f style n = (i : ℕ) → i < n → HasNumberOr f style (key_at i)
 
--- patterns of keys, among them those of the keys with smaller indexes
-pub record AreFirstPatterns (f : NumberFormatter) (style : CompactStyle) (n : ℕ) (patterns : List NumberPattern)
-    : Type 0 where
-  pub all : (i : ℕ) → i < n → Contains patterns (word_pattern f style (key_at i))
-  pub only : (p : NumberPattern) → Contains patterns p → (k : CompactKey) × (p ≡ word_pattern f style k)
+-- patterns of keys with the number or without it, among them those of the keys with smaller indexes
+pub record AreFirstPatterns (f : NumberFormatter) (style : CompactStyle) (has_number : Bool) (n : ℕ)
+    (patterns : List NumberPattern) : Type 0 where
+  pub all : (i : ℕ) → i < n → has_number_at f style (key_at i) ≡ has_number
+      → Contains patterns (word_pattern f style (key_at i))
+  pub only : (p : NumberPattern) → Contains patterns p → IsPatternOf f style has_number p
 
 -- the pattern with an index is told apart from each
 abbrev pub IsIndexApart : NumberFormatter → CompactStyle → ℕ → Type 0
 IsIndexApart f style i =
-    (j : ℕ) → j < 3888
-    → AreToldApart f.style.symbols (word_pattern f style (key_at i)) (word_pattern f style (key_at j))
+    (j : ℕ) → j < 3888 → AreKeysApart f style (key_at i) (key_at j)
 
--- the pattern has the texts of the key, whichever category the whole number has
+-- the pattern has the texts around the number of the key, whichever category the whole number has
 abbrev pub HasTextsOf : NumberFormatter → CompactStyle → NumberPattern → CompactKey → Type 0
 HasTextsOf f style p k =
-    (whole : PluralCategory) × (p.affixes ≡ (word_pattern f style (record k { whole = whole })).affixes)
+    (has_number_at f style k ≡ true)
+    × ((whole : PluralCategory) × (p.affixes ≡ (word_pattern f style (record k { whole = whole })).affixes))
 
 -- the significand times the power of ten of the pattern, if it has the texts of the pattern; else `Syntax`
 abbrev pub IsOwnOr : NumberFormatter → CompactStyle → NumberPattern → Decimal → Result Decimal ParseError → Type 0
@@ -213,7 +295,7 @@ IsOwnOr f style p v result =
 -- what reads digits between the texts of all patterns
 pub record IsWordReader (f : NumberFormatter) (style : CompactStyle) (r : Reader) : Type 0 where
   pub reader : r ≡ word_reader f r.patterns
-  pub patterns : AreWordPatterns f style r.patterns
+  pub patterns : AreWordPatterns f style true r.patterns
   pub readable : IsReadable f.style.symbols
   pub named : AreNamed f.style.symbols r.patterns
   pub exponents : HasCompactExponents f.notation

@@ -1,9 +1,9 @@
 -- The text of a formatted range.
-use Rattle.std.specs.Prelude.{◌≡◌, ◌⊎◌, ℕ, Bool, if◌then◌else◌, List, ◌++◌, Option, Some}
+use Rattle.std.specs.{Prelude.{◌≡◌, ◌⊎◌, ℕ, List, [], ◌++◌, Option, Some}, Option.option_map_or}
 use Rattle.fixed_decimal.specs.Decimal.{Decimal}
 use Rattle.plural_rules.specs.declared.rules.PluralCategory.{PluralCategory}
 use Rattle.locale_data.specs.{declared.locales.LocaleId.LocaleId, Locales.AreRowsOf, RangeFormats.IsRangeFormat}
-use Rattle.number_format.specs.{declared.{format.{outer.OuterAround.OuterAround, formatted_number.FormattedNumber.FormattedNumber, formatter.NumberFormatter.NumberFormatter}, range.{affixes.WideAffixes.WideAffixes, formatted_range.{FormattedRange.FormattedRange, RangeSegment.{RangeSegment, TheVariants.{Prefix, Start, Middle, End, Suffix}}, RangeSource.{RangeSource, TheVariants.{Shared, StartRange, EndRange}}}, range_texts.RangeTexts.RangeTexts, segment.Segment.Segment}}, Formatters.system_text, FormattedNumbers.{number_pieces_if, number_text_if, pattern_of}, NumberText.outer_by, PatternTexts.Around, RangeText.{IsRangeEnd, RangeEnd, RangePieces, ShownRange, range_pieces, text_of_pieces}, TextParts.{Piece, parts_pieces, parts_text, pieces_of, pieces_text}}
+use Rattle.number_format.specs.{declared.{format.{formatted_number.FormattedNumber.FormattedNumber, formatter.NumberFormatter.NumberFormatter}, range.{affixes.WideAffixes.WideAffixes, around.RangeAround.RangeAround, form.RangeForm.{RangeForm, TheVariants.Approximate}, formatted_range.{FormattedRange.FormattedRange, RangeSegment.{RangeSegment, TheVariants.{Prefix, Start, Middle, End, Suffix}}, RangeSource.{RangeSource, TheVariants.{Shared, StartRange, EndRange}}}, range_texts.RangeTexts.RangeTexts, segment.Segment.Segment}}, Formatters.system_text, FormattedNumbers.{around_of, number_pieces_if, number_text_if, outer_of, pattern_of, IsOuter}, NumberText.{outer_by, AreParts}, PatternTexts.Around, RangeText.{approximate_around, range_by, range_category, separator_pieces, IsRangeEnd, RangeEnd, RangePieces, ShownRange, range_pieces, text_of_pieces}, TextParts.{Piece, parts_pieces, parts_text, pieces_of, pieces_text}}
 
 -- ---- The texts of a locale.
 
@@ -74,26 +74,45 @@ pub record AreWideAffixes (a : Around) (shown : WideAffixes) : Type 0 where
   pub has_number : shown.has_number ≡ a.has_number
   pub suffix : parts_pieces shown.suffix ≡ a.suffix
 
--- what is before the whole text, or after it; its texts are one piece
-abbrev pub outer_text : OuterAround → Bool → List ℕ
-outer_text u is_after = if is_after then parts_text u.after else parts_text u.before
+-- the parts are what is around the approximate number of a range
+abbrev pub AreApproximate : FormattedRange → WideAffixes → Type 0
+AreApproximate t =
+    AreWideAffixes
+    (approximate_around t.start.formatter.now.style t.format.approximately t.start.value.sign (pattern_of t.start))
 
-abbrev pub outer_pieces : OuterAround → Bool → List Piece
-outer_pieces u is_after = pieces_of u.kind (outer_text u is_after)
+-- what is around the whole text and around the numbers, and the separator
+pub record IsRangeAround (t : FormattedRange) (shown : RangeAround) : Type 0 where
+  pub outer : IsOuter (outer_of t.start) shown.outer
+  pub start : AreParts (around_of t.start) shown.start
+  pub end : AreParts (around_of t.end) shown.end
+  pub approximate : t.form ≡ Approximate → AreApproximate t shown.approximate
+  pub separator : parts_pieces shown.separator ≡ separator_pieces t.format.separator t.spaced
+
+-- the texts before or after the whole text, if the segment has any
+abbrev pub outer_text : Segment → List ℕ
+outer_text s = option_map_or (λ texts. parts_text texts.now) s.outer []
 
 abbrev pub segment_pieces : Segment → List Piece
 segment_pieces s =
-    parts_pieces s.affixes.prefix
-    ++ (number_pieces_if s.number.now s.affixes.has_number
-    ++ (parts_pieces s.affixes.suffix ++ outer_pieces s.outer s.is_after))
+    parts_pieces s.prefix.now
+    ++ (number_pieces_if s.number.now s.has_number
+    ++ (parts_pieces s.suffix.now ++ pieces_of s.kind (outer_text s)))
 
 abbrev pub segment_text : Segment → List ℕ
 segment_text s =
-    parts_text s.affixes.prefix
-    ++ (number_text_if s.number.now s.affixes.has_number
-    ++ (parts_text s.affixes.suffix ++ outer_text s.outer s.is_after))
+    parts_text s.prefix.now
+    ++ (number_text_if s.number.now s.has_number ++ (parts_text s.suffix.now ++ outer_text s))
 
 -- a formatted number is an end of a range, and has the category of what is around the whole text
 abbrev pub IsFormattedEnd : NumberFormatter → Decimal → FormattedNumber → Type 0
 IsFormattedEnd f v n =
     (is : IsRangeEnd f v (end_of n)) × ((n.whole ≡ is.whole) ⊎ ((a b : PluralCategory) → outer_by f a ≡ outer_by f b))
+
+-- a range of two ends; what is around the whole text is that of the category of their range
+pub record IsShownBy (t : RangeTexts) (form : RangeForm) (m n : FormattedNumber) (r : ShownRange) : Type 0 where
+  pub shown :
+      let made = range_by t form (end_of m) (end_of n) m.whole n.whole in
+      r ≡ record made { category = r.category }
+  pub outer :
+      outer_by m.formatter.now r.category
+      ≡ outer_by m.formatter.now (range_category t.tag.now form m.whole n.whole)

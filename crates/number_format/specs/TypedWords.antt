@@ -141,12 +141,12 @@ IsTypedInWords inline f style plain all text result =
 
 -- ---- Private: used only in the contracts of private functions.
 
-abbrev pub typing : ℕ → NumberFormatter → Reader → TypedText → Typing
-typing inline f plain t = record {
+abbrev pub typing : ℕ → TypedText → Typing
+typing inline t = record {
   inline = inline;
-  formatter = f;
+  formatter = t.formatter.now;
   style = t.style;
-  plain = plain;
+  plain = t.plain.now;
   alternatives = t.alternatives.now;
   text = t.text.now;
   front = chars t.front.now;

@@ -3,7 +3,7 @@ ghost use Rattle.std.specs.{Prelude.{◌≡◌, ◌≢◌, ◌*◌, ◌^◌, ◌
 ghost use Rattle.decimal_unsigned.specs.Unsigned.{Unsigned, IsValue};
 ghost use Rattle.fixed_decimal.specs.Decimal.{Decimal, with_sign_display};
 ghost use Rattle.decimal_format.specs.{Formatted.formatted, Readable.IsReadable, Symbols.{Symbols, sign_affixes}};
-ghost use Rattle.number_format.specs.{declared.read.{pattern.NumberPattern.NumberPattern, scientific.ExponentForm.ExponentForm}, FormattedNumbers.{hides_zero_of, number_text}, AffixedTexts.{Reader, AreNamed, between, IsWritten, IsShown, shifted, IsReadExactly}, Formatters.{plain_options, IsFormatterBy, IsFormatterAt, IsFormatter}, CompactReading.IsReadInWords, NumberReading.{IsStandard, words_of, reader_of, CanRead, IsShownAs}, NumberText.IsNumberText, ScientificReading.{CanReadExponent, exponent_form, HasExponentOf, notation_of, scientific_text, IsReadScientific}, AffixedExponents.IsReadWithExponent, ShownDigits.{rounded_with, applied, IsFractional, KeepsDigits}, Scaled.{KeepsExponent, KeepsValueOf}};
+ghost use Rattle.number_format.specs.{declared.read.{pattern.NumberPattern.NumberPattern, scientific.ExponentForm.ExponentForm}, FormattedNumbers.{hides_zero_of, number_text}, AffixedTexts.{Reader, AreNamed, between, IsWritten, IsShown, shifted, IsReadExactly}, Formatters.{plain_options, IsFormatterBy, IsFormatterAt, IsFormatter}, CompactReading.{IsReadInWords, IsSaid}, NumberReading.{IsStandard, words_of, reader_of, CanRead, IsShownAs}, NumberText.IsNumberText, ScientificReading.{CanReadExponent, exponent_form, HasExponentOf, notation_of, scientific_text, IsReadScientific}, AffixedExponents.IsReadWithExponent, ShownDigits.{rounded_with, applied, IsFractional, KeepsDigits}, Scaled.{KeepsExponent, KeepsValueOf}};
 
 use crate::digits::options::DigitOptions;
 use crate::digits::ranges::FractionDigits;
@@ -41,8 +41,8 @@ pub fn applying_is_idempotent()
 {}
 
 /// Without an increment the exponent of a notation is that of the first digit of the result, also if the rounding
-/// carries, and one rounding with this exponent makes the same number; it is another one than that of the decimal only
-/// after a carry to a power of ten.
+/// carries. One rounding with this exponent makes the same number. The exponent is another one than that of the decimal
+/// only after a carry to a power of ten.
 ///
 /// Of compact exponents this holds if they are ordered: none is above its magnitude or the exponent of the next one.
 pub fn the_exponent_is_of_the_rounded_number()
@@ -66,8 +66,8 @@ pub fn plain_texts_are_decimals()
         → IsNumberText f v text → text ≡ formatted own g (with_sign_display v SignDisplay.Auto) }
 {}
 
-/// With readable symbols, and patterns that are told apart, two values have different texts: also by patterns of other
-/// plural categories than theirs.
+/// If the symbols are readable, and the patterns are told apart, two values have different texts. This holds also for
+/// patterns of other plural categories than theirs.
 pub fn affixed_texts_are_unique()
     ensures { (r : Reader) (text : List ℕ) (v w : Decimal) → IsReadable r.symbols
         → AreNamed r.symbols r.patterns → IsValue v.absolute → IsValue w.absolute
@@ -152,21 +152,25 @@ pub fn formatted_exponents_are_unique()
 {}
 
 /// The reader of a formatter reads what it writes of a value in compact notation. It returns the number that is shown
-/// times the power of ten, with the scale undone. The number is rounded and has the sign that is written.
+/// times the power of ten, with the scale undone. The number is rounded and has the sign that is written. A text
+/// without a number, as `mille` in French, is written of `1` and of `1.00`, and read as `1`.
 pub fn formatted_words_read_back()
     ensures { (inline : ℕ) (f : NumberFormatter) (style : CompactStyle) (v u : Decimal) (text : List ℕ)
         (result : Result Decimal ParseError) → words_of f ≡ Some style → CanRead f → IsValue v.absolute
         → IsNumberText f v text → (shown : IsShownAs f v u) → IsReadInWords inline f style text result
-        → (result ≡ shifted (reader_of f).shift (shifted shown.number.exponent (Ok u)))
-        ⊎ (result ≡ Err ParseError.Memory) }
+        → (w : Decimal) × IsSaid f style text u w
+        × ((result ≡ shifted (reader_of f).shift (shifted shown.number.exponent (Ok w)))
+        ⊎ (result ≡ Err ParseError.Memory)) }
 {}
 
-/// Of a formatter in compact notation whose texts are read two numbers that are shown have different texts.
+/// Of a formatter in compact notation whose texts are read two numbers that are shown have different texts, except 1
+/// with other zeros if its text has no number.
 pub fn formatted_words_are_unique()
     ensures { (f : NumberFormatter) (style : CompactStyle) (v w x y : Decimal) (text : List ℕ)
         → words_of f ≡ Some style → CanRead f → IsValue v.absolute → IsValue w.absolute → IsNumberText f v text
         → IsNumberText f w text → (p : IsShownAs f v x) (q : IsShownAs f w y)
-        → (x ≡ y) × (p.number.exponent ≡ q.number.exponent) }
+        → (z : Decimal) × IsSaid f style text x z × IsSaid f style text y z
+        × (p.number.exponent ≡ q.number.exponent) }
 {}
 
 /// The digits and the exponent that a formatter writes are a text by its form of exponents. This holds if no decimal

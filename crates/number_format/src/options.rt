@@ -274,8 +274,8 @@ impl NumberOptions {
         self.increment_by(self.currency_digits())
     }
 
-    /// Returns the numbers of fraction digits that ECMA-402 has for the style and the notation; of money those of the
-    /// currency in each notation, as node, where ECMA-402 has them in standard notation only.
+    /// Returns the numbers of fraction digits that ECMA-402 has for the style and the notation. For money they are
+    /// those of the currency in each notation, as in node. ECMA-402 has these in standard notation only.
     pub fn digit_defaults(&self) -> DigitDefaults
         ensures { IsDefault self.now result }
     {

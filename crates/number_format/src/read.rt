@@ -2,6 +2,7 @@
 mod affix_reader;
 mod apart;
 mod compact;
+mod cut;
 pub(crate) mod number_reader;
 mod owned_affixes;
 pub(crate) mod pattern;

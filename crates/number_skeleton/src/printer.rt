@@ -9,7 +9,7 @@ use crate::text::push_skeleton;
 use number_format::NumberOptions;
 use std::alloc::{AllocError, Global};
 
-/// Returns a skeleton that reads as these options, or `None` if an option has no stem, as without digits.
+/// Returns a skeleton that reads as these options, or `None` if an option has no stem.
 ///
 /// The stems are those of ICU's normal form, and `group-auto` in compact notation.
 ///

@@ -40,7 +40,7 @@ pub struct Filter<'a> {
     /// Whether a line goes on while a quote is open, as in RFC 4180: the rows that are converted are records of CSV.
     pub has_records: bool,
     /// Whether blanks and tabs around a text, a carriage return at the end of a line and a byte order mark at the start
-    /// of the input are no part of what is converted. All but blanks and tabs around a whole line are copied.
+    /// of the input are not converted. All but blanks and tabs around a whole line are copied.
     pub trims: bool,
 }
 

@@ -15,7 +15,7 @@ type Line = ArrayString<121>;
 /// which is none where the block before it cannot be allocated. The errors of texts without a result are reported.
 pub type Ended<O> = (Result<bool, ProgramError>, Option<Closed<O>>);
 
-/// Takes reports of errors.
+/// Where errors are reported.
 ///
 /// A caller that is generic in `D` can prove `D.reports old error new` only by one call of `report` with that error.
 pub trait Diagnostics<E> {

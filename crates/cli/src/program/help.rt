@@ -14,7 +14,7 @@ pub enum Program {
     Plural,
 }
 
-/// What an only word asks for, instead of the work of a program.
+/// What `--help`, `--version` or `--locales` as the only word asks for, instead of the work of a program.
 #[derive(Clone, Copy)]
 pub enum Request {
     Help,

@@ -20,3 +20,4 @@ pub mod CompactTexts
 pub mod CompactOwn
 pub mod CompactOrder
 pub mod TypedTexts
+pub mod WholeTexts

@@ -5,7 +5,7 @@ ghost use Rattle.number_format.specs.ShownDigits.{last_at, fraction_end, zeros_e
 use crate::digits::ranges::{FractionDigits, FractionMultiples, SignificantDigits};
 use fixed_decimal::{RoundError, RoundingIncrement};
 
-/// Which of two least numbers of digits is shown.
+/// Which of two minimums of digits decides how many zeros are shown.
 #[derive(Clone, Copy, Debug, PartialEq)]
 pub enum Minimum {
     /// That of the rounding that is chosen, as ECMA-402 has it.
@@ -14,8 +14,8 @@ pub enum Minimum {
     Both,
 }
 
-/// Fraction digits and significant digits, of which a number has both roundings: of 1234.567 they are `1234.57`, by at
-/// most 2 fraction digits, and `1230`, by at most 3 significant digits.
+/// Fraction digits and significant digits. A number is rounded by both, and a priority chooses one of the results: of
+/// 1234.567 `1234.57`, by at most 2 fraction digits, or `1230`, by at most 3 significant digits.
 #[derive(Clone, Copy, Debug, PartialEq)]
 pub struct BothDigits {
     /// The numbers of fraction digits.

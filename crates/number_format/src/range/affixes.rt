@@ -1,7 +1,7 @@
 //! What is written around an approximate number.
-ghost use Rattle.std.specs.{Prelude.{◌≡◌, ◌≤◌, ◌++◌, [], length, IfSome, true}, Option.option_copied};
+ghost use Rattle.std.specs.{Prelude.{◌≡◌, ◌++◌, IfSome, true}, Option.option_copied};
 ghost use Rattle.locale_data.specs.Compact.{has_texts, AreTexts};
-ghost use Rattle.number_format.specs.{FormattedNumbers.{around_of, pattern_of}, FormattedRanges.AreWideAffixes, NumberText.compact_suffix, PatternTexts.{affix_pieces, sign_pieces}, RangeText.{approximately_pieces, approximate_affixes, approximate_around, approximate_compact, approximate_pattern, approximate_piece, is_sign_last, pieces_if}, TextParts.{part_pieces, parts_pieces}};
+ghost use Rattle.number_format.specs.{FormattedNumbers.pattern_of, FormattedRanges.AreWideAffixes, NumberText.compact_suffix, PatternTexts.{affix_pieces, sign_pieces}, RangeText.{approximately_pieces, approximate_affixes, approximate_around, approximate_compact, approximate_pattern, approximate_piece, is_sign_last, pieces_if}, TextParts.{part_pieces, parts_pieces}};
 
 use crate::format::affixes::{StyleTexts, space_if};
 use crate::format::formatted_number::FormattedNumber;
@@ -17,31 +17,12 @@ pub(crate) const NOTHING: TextPart<'static> = TextPart {
     text: "",
 };
 
-/// The parts before and after a number, exact or approximate.
+/// The parts before and after a number with an approximately sign.
 #[derive(Clone, Copy)]
 pub(crate) struct WideAffixes<'f> {
     pub(crate) prefix: [TextPart<'f>; 10],
     pub(crate) has_number: bool,
     pub(crate) suffix: [TextPart<'f>; 10],
-}
-
-/// Returns no parts.
-pub(crate) fn no_parts<'f>() -> [TextPart<'f>; 10]
-    ensures { parts_pieces result ≡ [] }
-{
-    [
-        NOTHING, NOTHING, NOTHING, NOTHING, NOTHING, NOTHING, NOTHING, NOTHING, NOTHING, NOTHING,
-    ]
-}
-
-/// Returns parts, and empty ones after them.
-pub(crate) fn wide<'f>(parts: &[TextPart<'f>]) -> [TextPart<'f>; 10]
-    requires { length parts.now ≤ 10 }
-    ensures { parts_pieces result ≡ parts_pieces parts.now }
-{
-    let mut wide = no_parts();
-    wide[..parts.len()].copy_from_slice(parts);
-    wide
 }
 
 fn approximately_part(approximately: ApproximatelySign) -> TextPart<'static>
@@ -221,20 +202,6 @@ impl StyleTexts {
 }
 
 impl FormattedNumber<'_> {
-    /// Returns the parts around the number.
-    pub(crate) fn wide_affixes(&self) -> WideAffixes<'_>
-        ensures { AreWideAffixes (around_of self.now) result }
-    {
-        let affixes = self.affixes();
-        let prefix = wide(&affixes.prefix);
-        let suffix = wide(&affixes.suffix);
-        WideAffixes {
-            prefix,
-            has_number: affixes.has_number,
-            suffix,
-        }
-    }
-
     /// Returns the parts around the number, with an approximately sign.
     pub(crate) fn approximate_affixes(&self, approximately: ApproximatelySign) -> WideAffixes<'_>
         ensures { AreWideAffixes (approximate_around self.now.formatter.now.style approximately

@@ -1,10 +1,10 @@
 //! How the two numbers of a range are written.
 ghost use Rattle.std.specs.Prelude.{◌≡◌};
-ghost use Rattle.number_format.specs.{FormattedRanges.end_of, RangeText.{bare_texts, form_by, has_exponent, is_apart, needs_spaces, written_exponent}};
+ghost use Rattle.number_format.specs.{FormattedRanges.end_of, RangeText.{bare_texts, characters_around, form_by, has_exponent, is_apart, needs_spaces, written_exponent}};
 
 use crate::format::formatted_number::FormattedNumber;
 use crate::options::NumberNotation;
-use crate::range::common::BareTexts;
+use crate::range::common::have_same_texts;
 
 /// How the two numbers of a range are written.
 #[derive(Clone, Copy, Debug, PartialEq)]
@@ -36,19 +36,20 @@ fn written_exponent(number: &FormattedNumber<'_>) -> i32
     }
 }
 
-/// Returns how two numbers are written, given whether they are equal before they are rounded, and whether both or
-/// neither are negative. The texts are those around the first number.
+/// Returns how two numbers are written, given the number of characters around the first one, whether they are equal
+/// before they are rounded, and whether both or neither are negative.
 pub(crate) fn form_by(
-    texts: &BareTexts,
+    characters: usize,
     are_equal: bool,
     have_same_sign: bool,
     start: &FormattedNumber<'_>,
     end: &FormattedNumber<'_>,
 ) -> RangeForm
-    requires { texts.now ≡ bare_texts (end_of start.now) }
+    requires characters { characters ≡ characters_around (bare_texts (end_of start.now)) }
+    requires formatter { start.now.formatter.now ≡ end.now.formatter.now }
     ensures { result ≡ form_by are_equal have_same_sign (end_of start.now) (end_of end.now) }
 {
-    if !texts.are_same(&BareTexts::of(end)) {
+    if !have_same_texts(start, end) {
         return RangeForm::Apart;
     }
     if written_exponent(start) == written_exponent(end)
@@ -56,7 +57,7 @@ pub(crate) fn form_by(
     {
         return RangeForm::Approximate;
     }
-    if texts.characters() > 1 {
+    if characters > 1 {
         RangeForm::Common
     } else {
         RangeForm::Apart
@@ -69,10 +70,10 @@ fn is_apart(form: RangeForm) -> bool
     matches!(form, RangeForm::Apart)
 }
 
-/// Returns whether the separator has spaces beside it. The texts are those around the first number.
-pub(crate) fn needs_spaces(form: RangeForm, texts: &BareTexts, start: &FormattedNumber<'_>) -> bool
-    requires { texts.now ≡ bare_texts (end_of start.now) }
+/// Returns whether the separator has spaces beside it, given the number of characters around the first number.
+pub(crate) fn needs_spaces(form: RangeForm, characters: usize, start: &FormattedNumber<'_>) -> bool
+    requires { characters ≡ characters_around (bare_texts (end_of start.now)) }
     ensures { result ≡ needs_spaces form (end_of start.now) }
 {
-    has_exponent(start.formatter.options.notation) || (is_apart(form) && texts.characters() > 0)
+    has_exponent(start.formatter.options.notation) || (is_apart(form) && characters > 0)
 }

@@ -1,11 +1,11 @@
 //! Formatting of a range of two numbers.
 ghost use Rattle.std.specs.Prelude.{◌≡◌, None, IfOk, IfErr};
-ghost use Rattle.number_format.specs.{FormattedRanges.{IsFormattedEnd, end_of, formatted_range_text, shown_range}, NumberText.{shown_number, is_negative, FormattingNeedsMemory}, RangeText.{are_equal, have_same_sign, needs_spaces, range_by, range_category, IsRange, IsRangeText, RangeFormattingFails}};
+ghost use Rattle.number_format.specs.{FormattedRanges.{IsFormattedEnd, IsShownBy, end_of, formatted_range_text, shown_range}, NumberText.{outer_by, shown_number, is_negative, FormattingNeedsMemory}, RangeText.{are_equal, have_same_sign, needs_spaces, range_category, IsRange, IsRangeText, RangeFormattingFails}};
 
 use crate::format::format_number::FormatError;
 use crate::format::formatted_number::{FormattedNumber, displayed_sign};
 use crate::format::formatter::NumberFormatter;
-use crate::range::common::{BareTexts, are_both_or_neither};
+use crate::range::common::{are_both_or_neither, characters_around};
 use crate::range::form::{RangeForm, form_by, needs_spaces};
 use crate::range::formatted_range::FormattedRange;
 use crate::range::range_texts::RangeTexts;
@@ -47,14 +47,19 @@ fn have_same_sign(start: &Decimal, end: &Decimal) -> bool
     are_both_or_neither(is_negative(start.sign), is_negative(end.sign))
 }
 
+/// Returns a plural category by which the same is around the whole text as by that of the range.
 fn range_category(
+    formatter: &NumberFormatter,
     tag: &str,
     form: RangeForm,
     start: PluralCategory,
     end: PluralCategory,
 ) -> PluralCategory
-    ensures { result ≡ range_category tag.now form start end }
+    ensures { outer_by formatter.now result ≡ outer_by formatter.now (range_category tag.now form start end) }
 {
+    if !formatter.has_categories() {
+        return start;
+    }
     match form {
         RangeForm::Approximate => start,
         _ => plural_range_category(tag, start, end),
@@ -69,10 +74,9 @@ fn range_by<'f>(
     end: FormattedNumber<'f>,
 ) -> FormattedRange<'f>
     requires { spaced ≡ needs_spaces form (end_of start) }
-    ensures { shown_range result ≡ range_by texts.now form (end_of start.entry) (end_of end.entry)
-        start.entry.whole end.entry.whole }
+    ensures { IsShownBy texts.now form start.entry end.entry (shown_range result) }
 {
-    start.whole = range_category(texts.tag, form, start.whole, end.whole);
+    start.whole = range_category(start.formatter, texts.tag, form, start.whole, end.whole);
     FormattedRange {
         start,
         end,
@@ -178,9 +182,9 @@ impl NumberFormatter {
                 });
             }
         };
-        let around = BareTexts::of(&first);
-        let form = form_by(&around, equal, same_sign, &first, &second);
-        let spaced = needs_spaces(form, &around, &first);
+        let characters = characters_around(&first);
+        let form = form_by(characters, equal, same_sign, &first, &second);
+        let spaced = needs_spaces(form, characters, &first);
         Ok(range_by(texts, form, spaced, first, second))
     }
 }

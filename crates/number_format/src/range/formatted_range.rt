@@ -1,12 +1,12 @@
 //! A range of two numbers as a locale writes it.
 ghost use Rattle.std.specs.{Prelude.{◌≡◌, ◌≤◌, length, Some, OnOk, OnErr, true}, Fmt.WritesStyledOnOk, Io.KnownBytes.Appends};
 ghost use Rattle.decimal_digits.specs.AppendsPrefix.{AppendsPrefix};
-ghost use Rattle.number_format.specs.{FormattedNumbers.{outer_of, IsOuter}, FormattedRanges.{formatted_range_pieces, formatted_range_text, pieces_in, segment_pieces, segment_text, shown_range, source_of, text_from_middle}, RangeText.pieces_by, TextParts.{Puts, PutsPrefix, pieces_text}};
-ghost use Rattle.number_format.specs.declared.range.form.RangeForm.TheVariants as form;
+ghost use Rattle.number_format.specs.{declared.range.form.RangeForm.RangeForm, FormattedRanges.{AreApproximate, formatted_range_pieces, formatted_range_text, segment_pieces, segment_text, source_of, text_from_middle, IsRangeAround}, TextParts.{Puts, PutsPrefix, pieces_text}};
 
 use crate::format::formatted_number::FormattedNumber;
-use crate::format::outer::OuterAround;
 use crate::format::parts::PartSink;
+use crate::range::affixes::{NOTHING, WideAffixes};
+use crate::range::around::{RangeAround, separator_parts};
 use crate::range::form::RangeForm;
 use crate::range::segment::Segment;
 use fixed_decimal::{Sink, SinkFault, Writeable};
@@ -90,110 +90,164 @@ impl<'f> Drop for FormattedRange<'f> {
 }
 
 impl<'f> FormattedRange<'f> {
-    fn outer(&self) -> OuterAround<'_>
-        ensures { IsOuter (outer_of self.now.start) result }
+    #[inline(always)]
+    fn approximate_affixes(&self) -> WideAffixes<'_>
+        ensures { self.now.form ≡ RangeForm.Approximate → AreApproximate self.now result }
     {
-        self.start.outer_around()
+        match self.form {
+            RangeForm::Approximate => self.start.approximate_affixes(self.format.approximately),
+            _ => WideAffixes {
+                prefix: [NOTHING; 10],
+                has_number: false,
+                suffix: [NOTHING; 10],
+            },
+        }
     }
 
-    fn approximate_segment(&self, segment: RangeSegment) -> Segment<'_, 'f>
-        ensures { segment_pieces result ≡ pieces_in (pieces_by form.Approximate (shown_range self.now)) segment }
+    #[inline(always)]
+    fn around(&self) -> RangeAround<'_>
+        ensures { IsRangeAround self.now result }
     {
-        let outer = self.outer();
+        RangeAround {
+            outer: self.start.outer_around(),
+            start: self.start.affixes(),
+            end: self.end.affixes(),
+            approximate: self.approximate_affixes(),
+            separator: separator_parts(self.format.separator, self.spaced),
+        }
+    }
+
+    fn approximate_segment<'r>(
+        &'r self,
+        around: &'r RangeAround<'r>,
+        segment: RangeSegment,
+    ) -> Segment<'r, 'f>
+        requires form { self.now.form ≡ RangeForm.Approximate }
+        requires around { IsRangeAround self.now around.now }
+        ensures { segment_pieces result ≡ formatted_range_pieces self.now segment }
+    {
+        let outer = &around.outer;
         let start = &self.start;
+        let wide = &around.approximate;
         match segment {
-            RangeSegment::Prefix => Segment::shared(start, &[], outer, false),
+            RangeSegment::Prefix => Segment::with_outer(start, &[], outer.kind, &outer.before),
             RangeSegment::Middle if outer.has_number => {
-                Segment::approximate(start, self.format.approximately)
+                Segment::between(&wide.prefix, start, wide.has_number, &wide.suffix)
             }
-            RangeSegment::Suffix => Segment::shared(start, &[], outer, true),
+            RangeSegment::Suffix => Segment::with_outer(start, &[], outer.kind, &outer.after),
             _ => Segment::digits_if(start, false),
         }
     }
 
-    fn common_segment(&self, segment: RangeSegment) -> Segment<'_, 'f>
-        ensures { segment_pieces result ≡ pieces_in (pieces_by form.Common (shown_range self.now)) segment }
+    fn common_segment<'r>(
+        &'r self,
+        around: &'r RangeAround<'r>,
+        segment: RangeSegment,
+    ) -> Segment<'r, 'f>
+        requires form { self.now.form ≡ RangeForm.Common }
+        requires around { IsRangeAround self.now around.now }
+        ensures { segment_pieces result ≡ formatted_range_pieces self.now segment }
     {
-        let outer = self.outer();
+        let outer = &around.outer;
+        let affixes = &around.start;
         let start = &self.start;
-        let affixes = start.affixes();
         let shown = outer.has_number && affixes.has_number;
         match segment {
-            RangeSegment::Prefix => Segment::shared(start, &affixes.prefix, outer, false),
-            RangeSegment::Start => Segment::digits_if(start, shown),
-            RangeSegment::Middle => {
-                Segment::separator_if(start, self.format.separator, self.spaced, shown)
+            RangeSegment::Prefix => {
+                let prefix = &affixes.prefix;
+                Segment::with_outer(start, prefix, outer.kind, &outer.before)
             }
+            RangeSegment::Start => Segment::digits_if(start, shown),
+            RangeSegment::Middle => Segment::parts_if(start, &around.separator, shown),
             RangeSegment::End => Segment::digits_if(&self.end, shown),
             RangeSegment::Suffix if outer.has_number => {
-                Segment::shared(start, &affixes.suffix, outer, true)
+                Segment::with_outer(start, &affixes.suffix, outer.kind, &outer.after)
             }
-            RangeSegment::Suffix => Segment::shared(start, &[], outer, true),
+            RangeSegment::Suffix => Segment::with_outer(start, &[], outer.kind, &outer.after),
         }
     }
 
-    fn apart_segment(&self, segment: RangeSegment) -> Segment<'_, 'f>
-        ensures { segment_pieces result ≡ pieces_in (pieces_by form.Apart (shown_range self.now)) segment }
+    fn apart_segment<'r>(
+        &'r self,
+        around: &'r RangeAround<'r>,
+        segment: RangeSegment,
+    ) -> Segment<'r, 'f>
+        requires form { self.now.form ≡ RangeForm.Apart }
+        requires around { IsRangeAround self.now around.now }
+        ensures { segment_pieces result ≡ formatted_range_pieces self.now segment }
     {
-        let outer = self.outer();
+        let outer = &around.outer;
         let start = &self.start;
         let shown = outer.has_number;
         match segment {
-            RangeSegment::Prefix => Segment::shared(start, &[], outer, false),
-            RangeSegment::Start => Segment::number_if(start, shown),
-            RangeSegment::Middle => {
-                Segment::separator_if(start, self.format.separator, self.spaced, shown)
-            }
-            RangeSegment::End => Segment::number_if(&self.end, shown),
-            RangeSegment::Suffix => Segment::shared(start, &[], outer, true),
+            RangeSegment::Prefix => Segment::with_outer(start, &[], outer.kind, &outer.before),
+            RangeSegment::Start => Segment::number_if(start, &around.start, shown),
+            RangeSegment::Middle => Segment::parts_if(start, &around.separator, shown),
+            RangeSegment::End => Segment::number_if(&self.end, &around.end, shown),
+            RangeSegment::Suffix => Segment::with_outer(start, &[], outer.kind, &outer.after),
         }
     }
 
-    fn segment(&self, segment: RangeSegment) -> Segment<'_, 'f>
+    fn segment<'r>(&'r self, around: &'r RangeAround<'r>, segment: RangeSegment) -> Segment<'r, 'f>
+        requires { IsRangeAround self.now around.now }
         ensures pieces { segment_pieces result ≡ formatted_range_pieces self.now segment }
         ensures text { segment_text result ≡ pieces_text (formatted_range_pieces self.now segment) }
     {
         match self.form {
-            RangeForm::Approximate => self.approximate_segment(segment),
-            RangeForm::Common => self.common_segment(segment),
-            RangeForm::Apart => self.apart_segment(segment),
+            RangeForm::Approximate => self.approximate_segment(around, segment),
+            RangeForm::Common => self.common_segment(around, segment),
+            RangeForm::Apart => self.apart_segment(around, segment),
         }
     }
 
-    fn segment_length(&self, segment: RangeSegment) -> usize
+    fn segment_length(&self, around: &RangeAround<'_>, segment: RangeSegment) -> usize
+        requires { IsRangeAround self.now around.now }
         ensures value { result ≡ length (pieces_text (formatted_range_pieces self.now segment)) }
         ensures at_most { result ≤ 17243363 }
     {
-        self.segment(segment).length()
+        self.segment(around, segment).length()
     }
 
-    fn write_segment<W: Sink>(&self, segment: RangeSegment, sink: &mut W) -> Result<(), SinkFault>
+    fn write_segment<W: Sink>(
+        &self,
+        around: &RangeAround<'_>,
+        segment: RangeSegment,
+        sink: &mut W,
+    ) -> Result<(), SinkFault>
+        requires { IsRangeAround self.now around.now }
         ensures ok { OnOk result (Appends (W.contents sink.old) (W.contents sink.new)
             (pieces_text (formatted_range_pieces self.now segment))) }
         ensures err { OnErr result (AppendsPrefix (W.contents sink.old) (W.contents sink.new)
             (pieces_text (formatted_range_pieces self.now segment))) }
         ensures failed { OnErr result (W.has_failed sink.new ≡ true) }
     {
-        self.segment(segment).write(sink)
+        self.segment(around, segment).write(sink)
     }
 
     fn fmt_segment<W: fmt::Write>(
         &self,
+        around: &RangeAround<'_>,
         segment: RangeSegment,
         f: &mut fmt::Formatter<W>,
     ) -> fmt::Result
+        requires { IsRangeAround self.now around.now }
         ensures { WritesStyledOnOk W.write_str_gives f.old result
             (pieces_text (formatted_range_pieces self.now segment)) f.new }
     {
-        self.segment(segment).fmt(f)
+        self.segment(around, segment).fmt(f)
     }
 
-    fn fmt_from_middle<W: fmt::Write>(&self, f: &mut fmt::Formatter<W>) -> fmt::Result
+    fn fmt_from_middle<W: fmt::Write>(
+        &self,
+        around: &RangeAround<'_>,
+        f: &mut fmt::Formatter<W>,
+    ) -> fmt::Result
+        requires { IsRangeAround self.now around.now }
         ensures { WritesStyledOnOk W.write_str_gives f.old result (text_from_middle self.now) f.new }
     {
-        self.fmt_segment(RangeSegment::Middle, f)?;
-        self.fmt_segment(RangeSegment::End, f)?;
-        self.fmt_segment(RangeSegment::Suffix, f)
+        self.fmt_segment(around, RangeSegment::Middle, f)?;
+        self.fmt_segment(around, RangeSegment::End, f)?;
+        self.fmt_segment(around, RangeSegment::Suffix, f)
     }
 
     /// Puts the pieces of a segment of the text with their kinds into a sink, which is any [`PartSink`]. It does not
@@ -221,7 +275,8 @@ impl<'f> FormattedRange<'f> {
             (PutsPrefix (P.pieces sink.old) (P.pieces sink.new) (formatted_range_pieces self.now segment)) }
         ensures failed { OnErr result (P.has_failed sink.new ≡ true) }
     {
-        self.segment(segment).put(sink)
+        let around = self.around();
+        self.segment(&around, segment).put(sink)
     }
 }
 
@@ -237,20 +292,22 @@ impl<'f> Writeable for FormattedRange<'f> {
         if sink.failed() {
             return Err(SinkFault);
         }
-        self.write_segment(RangeSegment::Prefix, sink)?;
-        self.write_segment(RangeSegment::Start, sink)?;
-        self.write_segment(RangeSegment::Middle, sink)?;
-        self.write_segment(RangeSegment::End, sink)?;
-        self.write_segment(RangeSegment::Suffix, sink)
+        let around = self.around();
+        self.write_segment(&around, RangeSegment::Prefix, sink)?;
+        self.write_segment(&around, RangeSegment::Start, sink)?;
+        self.write_segment(&around, RangeSegment::Middle, sink)?;
+        self.write_segment(&around, RangeSegment::End, sink)?;
+        self.write_segment(&around, RangeSegment::Suffix, sink)
     }
 
     /// Returns the exact number of bytes of the text.
     fn writeable_length_hint(&self) -> usize {
-        self.segment_length(RangeSegment::Prefix)
-            + self.segment_length(RangeSegment::Start)
-            + self.segment_length(RangeSegment::Middle)
-            + self.segment_length(RangeSegment::End)
-            + self.segment_length(RangeSegment::Suffix)
+        let around = self.around();
+        self.segment_length(&around, RangeSegment::Prefix)
+            + self.segment_length(&around, RangeSegment::Start)
+            + self.segment_length(&around, RangeSegment::Middle)
+            + self.segment_length(&around, RangeSegment::End)
+            + self.segment_length(&around, RangeSegment::Suffix)
     }
 }
 
@@ -265,8 +322,9 @@ impl<'f> fmt::Display for FormattedRange<'f> {
     ///
     /// The formatter fails.
     fn fmt<W: fmt::Write>(&self, f: &mut fmt::Formatter<W>) -> fmt::Result {
-        self.fmt_segment(RangeSegment::Prefix, f)?;
-        self.fmt_segment(RangeSegment::Start, f)?;
-        self.fmt_from_middle(f)
+        let around = self.around();
+        self.fmt_segment(&around, RangeSegment::Prefix, f)?;
+        self.fmt_segment(&around, RangeSegment::Start, f)?;
+        self.fmt_from_middle(&around, f)
     }
 }

@@ -1,5 +1,5 @@
 //! What a locale writes of ranges.
-ghost use Rattle.std.specs.Prelude.{◌≡◌, IfSome, IfNone};
+ghost use Rattle.std.specs.Prelude.{◌≡◌, Some, IfSome, IfNone};
 ghost use Rattle.locale_data.specs.Locales.{IsUnknown};
 ghost use Rattle.number_format.specs.FormattedRanges.{AreRangeTexts};
 
@@ -39,5 +39,19 @@ impl<'t> RangeTexts<'t> {
             tag,
             format: range_format(tag, system),
         })
+    }
+
+    /// Returns what a locale writes of ranges in the numbering system with a name, as [`of`](Self::of) finds it.
+    ///
+    /// ```
+    /// let texts = RangeTexts::in_system("de", "latn")?;
+    /// ```
+    pub fn in_system(tag: &'t str, system: &str) -> Option<RangeTexts<'t>>
+        ensures some { IfSome result (AreRangeTexts tag.now (Some system.now)) }
+        ensures none { IfNone result (IsUnknown tag.now) }
+    {
+        let _id = locale_id(tag)?;
+        let format = range_format(tag, system);
+        Some(RangeTexts { tag, format })
     }
 }

@@ -6,9 +6,9 @@ ghost use Rattle.number_format.specs.{AffixedTexts.{AreNamed, Allows, shifted, I
 ghost use Rattle.number_format.specs.declared.read.pattern.NumberPattern.{NumberPattern};
 ghost use Rattle.plural_rules.specs.Operands.{plain};
 
+use crate::read::cut::cut_affixes;
 use crate::read::pattern::NumberPattern;
 use crate::read::scientific::ExponentForm;
-use crate::read::scientific::scan::cut;
 use decimal_format::DecimalSymbols;
 use decimal_format::internal::{
     Alternative, begins_with_digit, ends_with_digit, read_alternatives,
@@ -43,23 +43,6 @@ impl<'a> Model for AffixReader<'a> {
     } };
 
     ghost invariant = { λ s. IsReadable s.symbols × AreNamed s.symbols s.patterns.items };
-}
-
-fn cut_end<'t>(text: &'t [u8], code: &[u8]) -> Option<&'t [u8]>
-    ensures { MatchOption result ((front : List ℕ) → text.now ≢ front ++ code.now)
-        (λ front. text.now ≡ front.now ++ code.now) }
-{
-    if code.is_empty() {
-        return Some(text);
-    }
-    text.strip_suffix(code)
-}
-
-fn cut_affixes<'t>(text: &'t [u8], prefix: &[u8], suffix: &[u8]) -> Option<&'t [u8]>
-    ensures { MatchOption result ((middle : List ℕ) → text.now ≢ prefix.now ++ (middle ++ suffix.now))
-        (λ middle. text.now ≡ prefix.now ++ (middle.now ++ suffix.now)) }
-{
-    cut_end(cut(text, prefix)?, suffix)
 }
 
 fn between<'t>(

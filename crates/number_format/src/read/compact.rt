@@ -1,11 +1,12 @@
 //! Reading of numbers in compact notation.
-ghost use Rattle.std.specs.Prelude.{◌≡◌, ◌↔◌, ◌≤ℤ◌, ◌-ℤ◌, pos, Ok, IsTrue};
+ghost use Rattle.std.specs.Prelude.{◌≡◌, ◌↔◌, ◌≤ℤ◌, ◌-ℤ◌, pos, Ok, IsTrue, true, false};
 ghost use Rattle.decimal_format.specs.{Readable.IsReadable};
-ghost use Rattle.number_format.specs.{AffixedTexts.{AreNamed, shifted}, CompactReading.{word_pattern, magnitude_by, HasCompactExponents, HasTextsOf, IsOwnPattern, IsOwnOr, IsReadShownInWords, IsReadInAnyWords, IsReadOrAny, IsReadInWords, AreWordPatterns}, Scaled.IsOrdered, TypedWords.IsTypedInWords};
+ghost use Rattle.number_format.specs.{AffixedTexts.{AreNamed, shifted}, CompactReading.{word_pattern, magnitude_by, HasCompactExponents, HasTextsOf, IsOwnPattern, IsOwnOr, IsReadByNumber, IsReadShownInWords, IsReadInAnyWords, IsReadOrAny, IsReadInWords, AreWordPatterns}, Scaled.IsOrdered, TypedWords.IsTypedInWords};
 
 mod apart;
 mod keys;
 mod typed;
+mod whole;
 mod words;
 
 use crate::format::compact::{compact_power, is_unit, undivided_magnitude};
@@ -14,6 +15,7 @@ use crate::notation::{CompactExponents, Notation};
 use crate::read::affix_reader::{AffixReader, shifted};
 use crate::read::apart::are_same_powers;
 use crate::read::compact::keys::{CompactKey, category_at};
+use crate::read::compact::whole::find_whole;
 use crate::read::pattern::NumberPattern;
 use decimal_format::internal::Alternative;
 use fixed_decimal::{DigitStore, ParseError, Signed, UnsignedOver};
@@ -29,17 +31,21 @@ pub(crate) struct CompactReader {
     style: CompactStyle,
     /// Between the texts of all magnitudes, categories and signs.
     reader: AffixReader<'static>,
+    /// The whole texts, as `mille`.
+    wholes: Vec<NumberPattern>,
 }
 
 impl Model for CompactReader {
     ghost use Rattle.locale_data.specs.declared.compact.CompactStyle.{CompactStyle};
-    ghost use Rattle.number_format.specs.{declared.format.formatter.NumberFormatter.NumberFormatter, CompactReading.IsWordReader};
+    ghost use Rattle.std.specs.Prelude.{false};
+    ghost use Rattle.number_format.specs.{declared.format.formatter.NumberFormatter.NumberFormatter, CompactReading.{AreWordPatterns, IsWordReader}};
 
     ghost Value = { NumberFormatter × CompactStyle };
 
     ghost view = { λ s. (s.formatter, s.style) };
 
-    ghost invariant = { λ s. IsWordReader s.formatter s.style s.reader };
+    ghost invariant = { λ s. IsWordReader s.formatter s.style s.reader
+        × AreWordPatterns s.formatter s.style false s.wholes.items };
 }
 
 fn magnitude_by<D: DigitStore>(value: &Signed<UnsignedOver<D>>, exponent: i32) -> i16
@@ -93,11 +99,13 @@ impl CompactReader {
         formatter: NumberFormatter,
         style: CompactStyle,
         patterns: Vec<NumberPattern>,
+        wholes: Vec<NumberPattern>,
         shift: i16,
     ) -> Self
         requires readable { IsReadable formatter.style.symbols }
         requires exponents { HasCompactExponents formatter.notation }
-        requires patterns { AreWordPatterns formatter style patterns.items }
+        requires patterns { AreWordPatterns formatter style true patterns.items }
+        requires wholes { AreWordPatterns formatter style false wholes.items }
         requires named { AreNamed formatter.style.symbols patterns.items }
         requires shift { shift ≡ pos 0 -ℤ formatter.options.scale }
         ensures { result ≡ (formatter, style) }
@@ -108,6 +116,7 @@ impl CompactReader {
             formatter,
             style,
             reader,
+            wholes,
         }
     }
 
@@ -122,6 +131,9 @@ impl CompactReader {
     fn has_texts_of(&self, pattern: &NumberPattern, key: CompactKey) -> bool
         ensures { IsTrue result ↔ HasTextsOf self.now.0 self.now.1 pattern.now key }
     {
+        if !self.formatter.has_number_in(self.style, key) {
+            return false;
+        }
         for index in 0..6 {
             let own = CompactKey {
                 whole: category_at(index),
@@ -193,6 +205,19 @@ impl CompactReader {
         }
     }
 
+    fn read_number<D: DigitStore>(
+        &self,
+        alloc: Global,
+        text: &[u8],
+    ) -> Result<Signed<UnsignedOver<D>>, ParseError>
+        ensures { IsReadByNumber D.L self.now.0 self.now.1 text.now result }
+    {
+        match self.reader.read_pattern(alloc, text) {
+            Ok((value, pattern)) => self.own(pattern, value),
+            Err(error) => Err(error),
+        }
+    }
+
     fn read_shown<D: DigitStore>(
         &self,
         alloc: Global,
@@ -200,9 +225,12 @@ impl CompactReader {
     ) -> Result<Signed<UnsignedOver<D>>, ParseError>
         ensures { IsReadShownInWords D.L self.now.0 self.now.1 text.now result }
     {
-        match self.reader.read_pattern(alloc, text) {
-            Ok((value, pattern)) => self.own(pattern, value),
-            Err(error) => Err(error),
+        match find_whole(self.wholes.as_slice(), text) {
+            Some(pattern) => {
+                let one = Signed::new(pattern.sign, UnsignedOver::one(alloc));
+                times(pattern, one)
+            }
+            None => self.read_number(alloc, text),
         }
     }
 
@@ -224,7 +252,7 @@ impl CompactReader {
     /// Reads a number between the texts of compact notation, in exactly one of the forms that a formatter writes.
     ///
     /// The texts are those that the formatter has for the number: of its magnitude and plural category. In `en`,
-    /// `1.25M` and `900` are accepted, and `1250K`, `0.5M`, `0K` and `1200` are `Syntax`.
+    /// `1.25M` and `900` are accepted, and `1250K`, `0.5M`, `0K` and `1200` are `Syntax`. In `fr` `mille` is 1000.
     ///
     /// # Errors
     ///

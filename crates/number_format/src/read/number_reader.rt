@@ -35,7 +35,9 @@ pub enum NumberReaderError {
     /// - The notation is scientific or engineering, and a unit or the name of a currency is written; or the sign of the
     ///   exponent is never written; or the text before the exponent begins with a digit or a separator, or one of these
     ///   with it.
-    /// - The notation is compact, and a word is written without a number: in French 1000 is `mille`.
+    /// - The notation is compact, and a word stands without a number, as `mille` for 1000 in Italian: it is chosen by
+    ///   a plural category. A word for the number 1 itself, as `mille` in French, is read if it has no digit, and no
+    ///   other sign or power of ten has the same text.
     Notation,
     /// The unit has a text without a number for numbers of a plural category: in Arabic `يومان` is two days.
     NoNumber(PluralCategory),
@@ -43,8 +45,8 @@ pub enum NumberReaderError {
     Scale,
     /// The symbols are not readable: of two digits, separators or prefixes of signs one begins with the other.
     Symbols,
-    /// Neither the prefixes nor the suffixes of two texts can be told apart. They are the texts of two signs, of two
-    /// categories of a unit or a name, or of two powers of ten.
+    /// Two texts around numbers cannot be told apart, neither by their prefixes nor by their suffixes. They are the
+    /// texts of two signs, of two categories of a unit or a name, or of two powers of ten.
     Affixes,
     /// Out of memory.
     Memory,
@@ -336,13 +338,16 @@ impl NumberFormatter {
         let Some(style) = self.options.compact_style() else {
             return Ok(None);
         };
-        let Ok(patterns) = self.word_patterns(alloc, style) else {
+        let Ok(patterns) = self.word_patterns(alloc, style, true) else {
             return Err(self.patterns_error());
         };
         if !are_named(&self.style.symbols, patterns.as_slice()) {
             return Err(NumberReaderError::Affixes);
         }
-        Ok(Some(CompactReader::new(self.copied(), style, patterns, shift)))
+        let Ok(wholes) = self.word_patterns(alloc, style, false) else {
+            return Err(self.patterns_error());
+        };
+        Ok(Some(CompactReader::new(self.copied(), style, patterns, wholes, shift)))
     }
 
     fn patterns_error(&self) -> NumberReaderError
@@ -440,9 +445,10 @@ impl NumberReader {
     /// sign and its least number of digits: `1.2E3` is 1200, and `12E3`, `1E03` and `1200` are `Syntax`.
     ///
     /// In compact notation it has the words of the number's magnitude and plural category: in `en`, `1.25M` is 1250000,
-    /// and `1250K`, `0.5M` and `1200` are `Syntax`. The value is the significand times the power of ten. The text of a
-    /// unit, of the name of a currency or of percent may be that of any plural category. It depends on the number
-    /// before it was rounded, which the text does not show: `1.2K day` is read too.
+    /// and `1250K`, `0.5M` and `1200` are `Syntax`. The value is the significand times the power of ten. A word without
+    /// a number, as `mille` in French, is 1 times its power of ten. The text of a unit, of the name of a currency or of
+    /// percent may be that of any plural category. It depends on the number before it was rounded, which the text does
+    /// not show: `1.2K day` is read too.
     ///
     /// # Errors
     ///

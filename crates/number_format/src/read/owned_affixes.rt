@@ -6,7 +6,7 @@ ghost use Rattle.number_format.specs.TextParts.{parts_text};
 use crate::format::affixes::NumberAffixes;
 use crate::format::outer::OuterAround;
 use crate::format::text_part::TextPart;
-use crate::read::scientific::scan::cut;
+use crate::read::cut::cut;
 use decimal_format::Affixes;
 use std::alloc::{AllocError, Global};
 use std::marker::Model;
@@ -67,6 +67,21 @@ fn are_joined(text: &[u8], first: &[TextPart<'_>], second: &[TextPart<'_>]) -> b
     };
     match cut_parts(rest, second) {
         Some(end) => end.is_empty(),
+        None => false,
+    }
+}
+
+/// Returns whether a text is that of what is around a whole text and around the number in it, without a number.
+pub(crate) fn is_whole(text: &[u8], outer: &OuterAround<'_>, inner: &NumberAffixes<'_>) -> bool
+    ensures { IsTrue result
+        ↔ (text.now ≡ (parts_text outer.now.before ++ parts_text inner.now.prefix)
+        ++ (parts_text inner.now.suffix ++ parts_text outer.now.after)) }
+{
+    let Some(rest) = cut_parts(text, &outer.before) else {
+        return false;
+    };
+    match cut_parts(rest, &inner.prefix) {
+        Some(end) => are_joined(end, &inner.suffix, &outer.after),
         None => false,
     }
 }

@@ -78,8 +78,9 @@ fn short_text<const CAP: usize>(parts: &[TextPart<'_>]) -> ArrayString<CAP>
     joined(parts).unwrap()
 }
 
-fn pair_text(first: &str, second: &str) -> ArrayString<2550>
-    requires { length first.now + length second.now ≤ 2550 }
+/// Joins two texts of at most `CAP` bytes.
+pub(crate) fn pair_text<const CAP: usize>(first: &str, second: &str) -> ArrayString<CAP>
+    requires { length first.now + length second.now ≤ CAP }
     ensures { result.bytes ≡ first.now ++ second.now }
 {
     let mut text = ArrayString::new();

@@ -7,13 +7,14 @@ ghost use Rattle.number_format.specs.{AffixedTexts.shifted, ScientificReading.{e
 
 mod apart;
 mod exponent;
-pub(crate) mod scan;
+mod scan;
 
 use crate::format::formatter::NumberFormatter;
 use crate::options::{ExponentOptions, ExponentSign, NumberNotation};
+use crate::read::cut::cut;
 use crate::read::scientific::apart::is_separator_apart;
 use crate::read::scientific::exponent::{Exponent, read_exponent};
-use crate::read::scientific::scan::{Scan, cut, scan_number};
+use crate::read::scientific::scan::{Scan, scan_number};
 use decimal_format::DecimalSymbols;
 use decimal_format::internal::begins_with_digit;
 use fixed_decimal::{DigitStore, ParseError, Signed, UnsignedOver};

@@ -5,7 +5,7 @@ use Rattle.fixed_decimal.specs.Decimal.{Decimal, signed_number}
 use Rattle.plural_rules.specs.{Operands.{Operands, plain}, Rules.category_of, RulesGrammar.IsCategoryByText, declared.rules.PluralCategory.PluralCategory}
 use Rattle.plural_rules.proofs.lemmas.parse.ParserComplete.{grammar-unique}
 use Rattle.locale_data.specs.{Plurals.{rules_text_at, IsCategoryAt}, declared.plurals.PluralRulesId.PluralRulesId}
-use Rattle.number_format.specs.{declared.{format.{formatted_number.FormattedNumber.FormattedNumber, formatter.NumberFormatter.NumberFormatter}, range.{common.BareTexts.BareTexts, form.RangeForm.{RangeForm, TheVariants.{Approximate, Common, Apart}}, range_texts.RangeTexts.RangeTexts}}, FormattedRanges.{end_of, IsFormattedEnd}, NumberText.{HasNumberText, IsNumberText, outer_by}, PatternTexts.{around, within}, RangeText.{IsRange, IsRangeEnd, RangeEnd, ShownRange, apart_pieces, are_same_texts, bare_texts, both_or_neither, end_around, end_number, pieces_by, range_by, range_category, range_form, range_pieces, separator_pieces, shown_end, text_of_pieces, written_exponent}, Scaled.ScaledValue, TextParts.{pieces_text}}
+use Rattle.number_format.specs.{declared.{format.{formatted_number.FormattedNumber.FormattedNumber, formatter.NumberFormatter.NumberFormatter}, range.{common.BareTexts.BareTexts, form.RangeForm.{RangeForm, TheVariants.{Approximate, Common, Apart}}, range_texts.RangeTexts.RangeTexts}}, FormattedRanges.{end_of, IsFormattedEnd, IsShownBy}, NumberText.{HasNumberText, IsNumberText, outer_by}, PatternTexts.{around, within}, RangeText.{IsRange, IsRangeEnd, RangeEnd, ShownRange, apart_pieces, are_same_texts, bare_texts, both_or_neither, end_around, end_number, pieces_by, range_category, range_form, range_pieces, separator_pieces, shown_end, text_of_pieces, written_exponent}, Scaled.ScaledValue, TextParts.{pieces_text}}
 
 -- rules have one category
 pub category_unique : (id : PluralRulesId) (n : Operands) (a b : PluralCategory) → IsCategoryAt id n a
@@ -111,13 +111,16 @@ same_outer f tag form a b c d (inr any) q = any (range_category tag form a b) (r
 -- two ends make a range
 pub is_range : (f : NumberFormatter) (t : RangeTexts) (v w : Decimal) (m n : FormattedNumber) (form : RangeForm)
     (r : ShownRange) → IsFormattedEnd f v m → IsFormattedEnd f w n → form ≡ range_form v w (end_of m) (end_of n)
-    → r ≡ range_by t form (end_of m) (end_of n) m.whole n.whole → IsRange f t v w r
+    → IsShownBy t form m n r → IsRange f t v w r
 is_range f t v w m n form r x y chosen made =
-    subst (IsRange f t v w) (sym made) (record {
+    let same = ap (λ (e : RangeEnd). e.formatter) x.0.value in
+    let category = range_category t.tag.now form m.whole n.whole in
+    subst (IsRange f t v w) (sym made.shown) (record {
       start_is = x.0;
       end_is = y.0;
       form_is = chosen;
       format_is = refl;
       spaced_is = refl;
-      outer_is = same_outer f t.tag.now form m.whole n.whole x.0.whole y.0.whole x.1 y.1;
+      outer_is = subst (λ g. outer_by g r.category ≡ outer_by g category) same made.outer
+          ∙ same_outer f t.tag.now form m.whole n.whole x.0.whole y.0.whole x.1 y.1;
     })

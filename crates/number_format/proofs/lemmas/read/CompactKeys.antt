@@ -70,16 +70,13 @@ pattern_by outer inner sign exponent = record {
 
 pub alike_by : (f : NumberFormatter) (style : CompactStyle) (k l : CompactKey)
     → inner_at f style k ≡ inner_at f style l → outer_by f k.whole ≡ outer_by f l.whole → k.sign ≡ l.sign
-    → exponent_at f.notation k.magnitude ≡ exponent_at f.notation l.magnitude → AreAlike f style k l
-alike_by f style k l inner outer sign exponent = record {
+    → exponent_at f.notation k.magnitude ≡ exponent_at f.notation l.magnitude
+    → (k.is_one ≡ true → l.is_one ≡ true) → AreAlike f style k l
+alike_by f style k l inner outer sign exponent one = record {
   pattern = λ i. pattern_by (outer i) (inner i) (sign i) (exponent i);
   has_number = ap (λ (a : Around). a.has_number) inner;
+  one = one;
 }
-
-pub alike_twice : (f : NumberFormatter) (style : CompactStyle) (k l m : CompactKey) → AreAlike f style k l
-    → AreAlike f style l m → AreAlike f style k m
-alike_twice f style k l m a b =
-    record { pattern = a.pattern ∙ b.pattern; has_number = a.has_number ∙ b.has_number }
 
 abbrev pub code : PluralCategory → ℕ
 code PluralCategory.Other = 0
@@ -137,7 +134,7 @@ digits_of a b o w s ha hb ho hw hs = record {
 -- each key has the texts of one with an index
 pub index_of : (f : NumberFormatter) (style : CompactStyle) → HasCompactExponents f.notation
     → (k : CompactKey)
-    → (i : ℕ) × (i < 3888) × AreAlike f style (key_at i) k
+    → (i : ℕ) × (i < 3888) × AreAlike f style (key_at i) k × ((key_at i).is_one ≡ k.is_one)
 index_of f style exponents k =
     let m = clamped k.magnitude in
     let a = unsigned_abs (m -ℤ pos 2) in
@@ -160,7 +157,9 @@ index_of f style exponents k =
           ∙ ap (λ ps. around_by f.style k.sign (pattern_for k.category k.is_one ps))
           (sym (same_patterns f.formats style k.magnitude)))
           (ap (λ n. outer_by f (category_at n)) is.whole ∙ ap (outer_by f) w.1) sign
-          (ap (exponent_at f.notation) magnitude ∙ sym (same_exponent_at f.notation exponents k.magnitude)),
+          (ap (exponent_at f.notation) magnitude ∙ sym (same_exponent_at f.notation exponents k.magnitude))
+          (λ e. sym one ∙ e),
+      one,
     )
 
 -- ---- Patterns of other numbers.
@@ -247,6 +246,10 @@ same_as_category ps c is = go _ (λ p e. counts_one p.count (counted None ps p e
 
 -- ---- Keys that repeat another.
 
+-- a key that is not for 1 itself
+not_one : (n : ℕ) → n ≡ 0 → (b : Bool) → (n == 1) ≡ true → b ≡ true
+not_one n is b one = absurd (let e = ap (λ n. n == 1) (sym is) ∙ one in cc)
+
 module _ (f : NumberFormatter) (style : CompactStyle) (i : ℕ) where
   pub same_in_row : 216 ≤ i → IsSameBefore f style (key_at i).magnitude → AreAlike f style (key_at (i - 216)) (key_at i)
   same_in_row from same =
@@ -262,7 +265,7 @@ module _ (f : NumberFormatter) (style : CompactStyle) (i : ℕ) where
       (pattern_for (category_at (category n)) (one n == 1) (compact_patterns f.formats style (magnitude n))))
       ∙ ap (λ ps. around_by f.style k.sign (pattern_for k.category k.is_one ps)) (sym same.0))
       (ap (λ n. outer_by f (category_at n)) whole) (ap sign_at sign)
-      (ap (exponent_at f.notation) magnitude ∙ sym same.1)
+      (ap (exponent_at f.notation) magnitude ∙ sym same.1) (λ e. ap (λ n. n == 1) (sym one) ∙ e)
 
   pub repeats_magnitude : 216 ≤ i → IsSameBefore f style (key_at i).magnitude → RepeatsAnother f style i
   repeats_magnitude from same = (i - 216, omega (arith, from), same_in_row from same)
@@ -287,7 +290,7 @@ module _ (f : NumberFormatter) (style : CompactStyle) (i : ℕ) where
             (compact_patterns f.formats style (pos (magnitude n + 2)))))
             ∙ ap (around_by f.style k.sign) (sym (same_as_other ps k.category k.is_one is)))
             (ap (λ n. outer_by f (category_at n)) whole) (ap sign_at sign)
-            (ap (λ n. exponent_at f.notation (pos (n + 2))) magnitude),
+            (ap (λ n. exponent_at f.notation (pos (n + 2))) magnitude) (not_one (j % 36 / 18) one k.is_one),
       )
 
   pub repeats_one : 18 ≤ i % 36
@@ -314,7 +317,7 @@ module _ (f : NumberFormatter) (style : CompactStyle) (i : ℕ) where
             (ap (λ b. is_of_one (pattern_for k.category b ps)) (sym is_one) ∙ is)))
             ∙ ap (λ b. around_by f.style k.sign (pattern_for k.category b ps)) (sym is_one))
             (ap (λ n. outer_by f (category_at n)) whole) (ap sign_at sign)
-            (ap (λ n. exponent_at f.notation (pos (n + 2))) magnitude),
+            (ap (λ n. exponent_at f.notation (pos (n + 2))) magnitude) (not_one (j % 36 / 18) one k.is_one),
       )
 
   -- what is around the whole text does not depend on the category
@@ -333,5 +336,5 @@ module _ (f : NumberFormatter) (style : CompactStyle) (i : ℕ) where
             (compact_patterns f.formats style (pos (magnitude n + 2)))))
             (same_outer f.formats f.outer (words_of f) f.options.style (key_at j).whole k.whole none)
             (ap sign_at sign)
-            (ap (λ n. exponent_at f.notation (pos (n + 2))) magnitude),
+            (ap (λ n. exponent_at f.notation (pos (n + 2))) magnitude) (λ e. ap (λ n. n == 1) (sym one) ∙ e),
       )

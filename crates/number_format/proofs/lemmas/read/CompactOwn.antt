@@ -1,12 +1,12 @@
 -- Whether a significand is written with the texts of a pattern.
-use Rattle.std.proofs.{Common.{◌≡◌, ℕ, Bool, true, false, List, ◌++◌, inl, inr, refl, sym, ◌∙◌, ap, subst, w16, w32, to_z, of_z, FitsSigned}, lemmas.Int.to_z-of_z}
+use Rattle.std.proofs.{Common.{◌≡◌, ◌≢◌, ℕ, Bool, true, false, List, ◌++◌, inl, inr, refl, sym, ◌∙◌, ap, subst, w16, w32, to_z, of_z, FitsSigned}, lemmas.Int.to_z-of_z}
 use Rattle.std.specs.{Prelude.{◌↔◌, IsTrue, Result, Ok, Err, ℤ, pos, ◌≤ℤ◌}, List.Contains}
-use Rattle.decimal_unsigned.specs.declared.error.ParseError.{ParseError}
+use Rattle.decimal_unsigned.specs.{Unsigned.one_value, declared.error.ParseError.ParseError}
 use Rattle.fixed_decimal.specs.{Decimal.Decimal}
 use Rattle.plural_rules.specs.{Operands.plain, declared.rules.PluralCategory.PluralCategory}
 use Rattle.locale_data.specs.{Plurals.IsCategoryAt, declared.compact.CompactStyle.CompactStyle}
 use Rattle.decimal_format.specs.{Formatted.absolute_text, Reading.IsRead, Symbols.Affixes}
-use Rattle.number_format.specs.{declared.{format.formatter.NumberFormatter.NumberFormatter, read.{compact.keys.CompactKey.CompactKey, pattern.NumberPattern.NumberPattern}}, AffixedTexts.{Reader, shifted, IsNumeral, IsWritten, IsWrittenBy}, CompactReading.{category_at, word_pattern, word_reader, magnitude_by, is_unit, HasTextsOf, IsOwnOr, IsOwnPattern, IsReadShownInWords, IsShownInWords, IsReadInAnyWords, IsWordReader}, Scaled.exponent_at}
+use Rattle.number_format.specs.{declared.{format.formatter.NumberFormatter.NumberFormatter, read.{compact.keys.CompactKey.CompactKey, pattern.NumberPattern.NumberPattern}}, AffixedTexts.{Reader, shifted, IsNumeral, IsWritten, IsWrittenBy}, CompactReading.{category_at, has_number_at, whole_text, word_pattern, word_reader, AreWordPatterns, HasCompactExponents, IsReadShownInWords, magnitude_by, is_unit, HasTextsOf, IsOwnOr, IsOwnPattern, IsReadByNumber, IsShownInWords, IsReadInAnyWords, IsWordReader}, Scaled.exponent_at}
 use Rattle.number_format.proofs.lemmas.{range.RangeEnds.category_unique, read.{AffixedNumbers.two_texts, CompactKeys.{code, coded}, CompactPatterns.AllBelow, CompactTexts.small_exponent}}
 
 -- powers of ten are compared as 32-bit integers
@@ -56,14 +56,15 @@ module _ (f : NumberFormatter) (style : CompactStyle) (v : Decimal) (p : NumberP
     own_by : (one : Bool) → (one ≡ true → is_unit v.absolute ≡ true) → exponent_at f.notation m ≡ p.exponent
         → HasTextsOf f style p (key one) → IsOwnPattern f style v p
     own_by one unit exponent has = record {
-      key = record (key one) { whole = has.0 };
+      key = record (key one) { whole = has.1.0 };
       own = record {
         magnitude = magnitude ∙ ap (magnitude_by v.absolute) (sym exponent);
         category = of_value;
         is_one = unit;
         sign = sign;
       };
-      is = (has.1, refl, sym exponent);
+      has = has.0;
+      is = (has.1.1, refl, sym exponent);
     }
 
     texts_by : (own : IsOwnPattern f style v p) → HasTextsOf f style p (key own.key.is_one)
@@ -77,8 +78,10 @@ module _ (f : NumberFormatter) (style : CompactStyle) (v : Decimal) (p : NumberP
           is_one = k.is_one;
           whole = k.whole;
           sign = sym own.is.1 i;
-        } in
-        (k.whole, own.is.0 ∙ ap (λ x. (word_pattern f style x).affixes) same)
+        } in (
+          ap (has_number_at f style) (sym same) ∙ own.has,
+          (k.whole, own.is.0 ∙ ap (λ x. (word_pattern f style x).affixes) same),
+        )
 
     -- the texts are those for another number than 1
     pub own_plural : exponent_at f.notation m ≡ p.exponent → HasTextsOf f style p (key false)
@@ -123,8 +126,8 @@ module _ (f : NumberFormatter) (style : CompactStyle) (p : NumberPattern) (k : C
   none_of lacks = (
     λ t. absurd (cc),
     λ has.
-        let c = coded has.0 in
-        absurd (lacks (code has.0) c.0 (subst HasTexts (sym c.1) has.1)),
+        let c = coded has.1.0 in
+        absurd (lacks (code has.1.0) c.0 (subst HasTexts (sym c.1) has.1.1)),
   )
 
 -- ---- What is read.
@@ -135,8 +138,8 @@ module _ (f : NumberFormatter) (style : CompactStyle) (r : Reader) (is : IsWordR
       → (pos 0 ≤ℤ p.exponent) × (p.exponent ≤ℤ pos 19)
   pattern_exponent p listed =
       let k = is.patterns.only p listed in
-      subst (λ (x : NumberPattern). (pos 0 ≤ℤ x.exponent) × (x.exponent ≤ℤ pos 19)) (sym k.1)
-      (small_exponent f.notation is.exponents k.0.magnitude)
+      subst (λ (x : NumberPattern). (pos 0 ≤ℤ x.exponent) × (x.exponent ≤ℤ pos 19)) (sym k.is)
+      (small_exponent f.notation is.exponents k.key.magnitude)
 
   module _ (inline : ℕ) (text : List ℕ) where
     abbrev pub IsReadHere : Result Decimal ParseError → Type 0
@@ -149,7 +152,7 @@ module _ (f : NumberFormatter) (style : CompactStyle) (r : Reader) (is : IsWordR
     there found read = subst (λ (q : Reader). IsReadThere q found) is.reader read
 
     -- nothing is found
-    pub read_error : (e : ParseError) → IsReadHere (Err e) → IsReadShownInWords inline f style text (Err e)
+    pub read_error : (e : ParseError) → IsReadHere (Err e) → IsReadByNumber inline f style text (Err e)
     read_error e read = (r.patterns, Err e, is.patterns, there (Err e) read, refl)
 
     pub any_error : (e : ParseError) → IsReadHere (Err e) → IsReadInAnyWords inline f style text (Err e)
@@ -168,6 +171,7 @@ module _ (f : NumberFormatter) (style : CompactStyle) (r : Reader) (is : IsWordR
       shown_of own = record {
         key = own.key;
         own = own.own;
+        has = own.has;
         exponent = sym own.is.2;
         strategy = by.strategy;
         is = text_is ∙ ap (λ (a : Affixes). a.prefix
@@ -175,7 +179,7 @@ module _ (f : NumberFormatter) (style : CompactStyle) (r : Reader) (is : IsWordR
       }
 
       read_own : IsOwnPattern f style v p → result ≡ shifted p.exponent (Ok v)
-          → IsReadShownInWords inline f style text result
+          → IsReadByNumber inline f style text result
       read_own own e =
           (r.patterns, Ok v, is.patterns, there (Ok v) read, inl (p.exponent, shown_of own, e))
 
@@ -183,11 +187,11 @@ module _ (f : NumberFormatter) (style : CompactStyle) (r : Reader) (is : IsWordR
       own_of e shown =
           let q = word_pattern f style shown.key in
           let same = two_texts f.style.symbols is.readable p q
-          (is.named.pair p q by.listed (is.patterns.all shown.key)) v v read.found.0 read.found.0 by.sign
+          (is.named.pair p q by.listed (is.patterns.all shown.key shown.has)) v v read.found.0 read.found.0 by.sign
           shown.own.sign by.strategy shown.strategy (sym text_is ∙ shown.is) in
-          record { key = shown.key; own = shown.own; is = same.0 }
+          record { key = shown.key; own = shown.own; has = shown.has; is = same.0 }
 
-      pub read_value : IsOwnOr f style p v result → IsReadShownInWords inline f style text result
+      pub read_value : IsOwnOr f style p v result → IsReadByNumber inline f style text result
       read_value (inl own) = read_own own.0 own.1
       read_value (inr other) =
           (r.patterns, Ok v, is.patterns, there (Ok v) read, inr (λ e shown. other.0 (own_of e shown), other.1))
@@ -200,3 +204,31 @@ module _ (f : NumberFormatter) (style : CompactStyle) (r : Reader) (is : IsWordR
         there (Ok v) read,
         (p, subst (λ (q : Reader). IsWrittenBy q text v p) is.reader by, e),
       )
+
+-- ---- Whole texts.
+
+module _ (f : NumberFormatter) (style : CompactStyle) (wholes : List NumberPattern)
+    (are : AreWordPatterns f style false wholes) where
+  pub whole_exponent : HasCompactExponents f.notation → (p : NumberPattern) → Contains wholes p
+      → (pos 0 ≤ℤ p.exponent) × (p.exponent ≤ℤ pos 19)
+  whole_exponent exponents p listed =
+      let k = are.only p listed in
+      subst (λ (x : NumberPattern). (pos 0 ≤ℤ x.exponent) × (x.exponent ≤ℤ pos 19)) (sym k.is)
+      (small_exponent f.notation exponents k.key.magnitude)
+
+  module _ (inline : ℕ) (text : List ℕ) (result : Result Decimal ParseError) where
+    pub read_whole : (p : NumberPattern) → Contains wholes p → text ≡ whole_text p
+        → result ≡ shifted p.exponent (Ok (record { sign = p.sign; absolute = one_value }))
+        → IsReadShownInWords inline f style text result
+    read_whole p listed is e =
+        let k = are.only p listed in
+        inl (
+          k.key,
+          record { none = k.has; is = is ∙ ap whole_text k.is },
+          e ∙ (λ i. shifted (k.is i).exponent (Ok (record { sign = (k.is i).sign; absolute = one_value }))),
+        )
+
+    pub read_other : ((p : NumberPattern) → Contains wholes p → text ≢ whole_text p)
+        → IsReadByNumber inline f style text result → IsReadShownInWords inline f style text result
+    read_other none read =
+        inr (λ k whole. none (word_pattern f style k) (are.all k whole.none) whole.is, read)

@@ -1,8 +1,8 @@
 -- The patterns of compact notation, by the indexes of their keys.
-use Rattle.std.proofs.{Common.{◌≡◌, ℕ, zero, suc, ◌+◌, ◌-◌, ◌*◌, ◌/◌, ◌<◌, ◌≤◌, Bool, true, false, List, [], ◌∷◌, ◌++◌, inl, inr, refl, sym, ◌∙◌, subst, arith}, lemmas.Bool.cases_lt}
+use Rattle.std.proofs.{Common.{◌≡◌, ℕ, zero, suc, ◌+◌, ◌-◌, ◌*◌, ◌/◌, ◌<◌, ◌≤◌, Bool, false, List, [], ◌∷◌, ◌++◌, inl, inr, refl, sym, ◌∙◌, ap, subst, arith}, lemmas.Bool.cases_lt}
 use Rattle.std.specs.{Prelude.{◌↔◌, ◌⊎◌, IsTrue, pos}, List.Contains}
 use Rattle.locale_data.specs.declared.compact.CompactStyle.{CompactStyle}
-use Rattle.number_format.specs.{declared.{format.formatter.NumberFormatter.NumberFormatter, read.{compact.keys.CompactKey.CompactKey, pattern.NumberPattern.NumberPattern}}, AffixedTexts.{AreNamed, AreToldApart}, CompactReading.{inner_at, word_pattern, key_at, AreWordPatterns, AreAlike, AreFirstPatterns, AreWordsNamed, HasCompactExponents, HasWordNumbers, IsIndexApart, IsSameBefore, RepeatsAnother}}
+use Rattle.number_format.specs.{declared.{format.formatter.NumberFormatter.NumberFormatter, read.{compact.keys.CompactKey.CompactKey, pattern.NumberPattern.NumberPattern}}, AffixedTexts.{AreToldApart}, CompactReading.{has_number_at, word_pattern, whole_text, key_at, AreKeysApart, AreWordPatterns, AreAlike, AreFirstPatterns, AreWordsNamed, HasCompactExponents, HasMeaningOf, HasNoDigit, HasNumberOr, HasOneMeaning, HasWordNumbers, IsIndexApart, IsSameBefore, RepeatsAnother}}
 use Rattle.number_format.proofs.lemmas.read.CompactKeys.{index_of, same_in_row}
 
 -- ---- A loop over indexes that passes over those that repeat another.
@@ -63,70 +63,111 @@ module _ (f : NumberFormatter) (style : CompactStyle) where
       same_in_row f style i (omega (arith, from, least))
       (subst (λ n. IsSameBefore f style (pos (n + 2))) magnitude same)
 
+  -- keys with the same texts
+  number_alike : (k l : CompactKey) → AreAlike f style k l → HasNumberOr f style k → HasNumberOr f style l
+  number_alike k l alike has none =
+      let whole = has (alike.has_number ∙ none) in record {
+        one = alike.one whole.one;
+        no_digit = subst (λ p. HasNoDigit f.style.symbols (whole_text p)) alike.pattern whole.no_digit;
+        meaning = subst (HasOneMeaning f style) alike.pattern whole.meaning;
+      }
+
+  apart_left : (k l m : CompactKey) → AreAlike f style k l → AreKeysApart f style k m → AreKeysApart f style l m
+  apart_left k l m alike apart has other =
+      subst (λ p. AreToldApart f.style.symbols p (word_pattern f style m)) alike.pattern
+      (apart (alike.has_number ∙ has) other)
+
+  apart_right : (k l m : CompactKey) → AreAlike f style l m → AreKeysApart f style k l → AreKeysApart f style k m
+  apart_right k l m alike apart has other =
+      subst (AreToldApart f.style.symbols (word_pattern f style k)) alike.pattern
+      (apart has (alike.has_number ∙ other))
+
   abbrev pub HasNumberAt : ℕ → Type 0
-  HasNumberAt i = (inner_at f style (key_at i)).has_number ≡ true
+  HasNumberAt i = HasNumberOr f style (key_at i)
 
   pub number_again : (i n : ℕ) → i ≤ n → AllBelow HasNumberAt n → RepeatsAnother f style i → HasNumberAt i
-  number_again i n within all (j, below, alike) = sym alike.has_number ∙ all j (omega (arith, within, below))
+  number_again i n within all (j, below, alike) =
+      number_alike (key_at j) (key_at i) alike (all j (omega (arith, within, below)))
 
   abbrev pub IsToldFrom : CompactKey → ℕ → Type 0
-  IsToldFrom k j = AreToldApart f.style.symbols (word_pattern f style k) (word_pattern f style (key_at j))
+  IsToldFrom k j = AreKeysApart f style k (key_at j)
 
   pub told_again : (k : CompactKey) (i n : ℕ) → i ≤ n → AllBelow (IsToldFrom k) n → RepeatsAnother f style i
       → IsToldFrom k i
   told_again k i n within all (j, below, alike) =
-      subst (AreToldApart f.style.symbols (word_pattern f style k)) alike.pattern (all j (omega (arith, within, below)))
+      apart_right k (key_at j) (key_at i) alike (all j (omega (arith, within, below)))
 
   pub apart_again : (i n : ℕ) → i ≤ n → AllBelow (IsIndexApart f style) n → RepeatsAnother f style i
       → IsIndexApart f style i
   apart_again i n within all (j, below, alike) = λ l h.
-      subst (λ p. AreToldApart f.style.symbols p (word_pattern f style (key_at l))) alike.pattern
-      (all j (omega (arith, within, below)) l h)
+      apart_left (key_at j) (key_at i) (key_at l) alike (all j (omega (arith, within, below)) l h)
 
   -- a magnitude with the texts of the one before it
   pub numbers_again : (row : ℕ) → 216 ≤ row * 216 → IsSameBefore f style (key_at (row * 216)).magnitude
       → AllBelow HasNumberAt (row * 216) → AllBelow HasNumberAt (row * 216 + 216)
   numbers_again row from same =
       row_again HasNumberAt (row * 216) from
-      (λ i least below has. sym (in_row row from same i least below).has_number ∙ has)
+      (λ i least below. number_alike (key_at (i - 216)) (key_at i) (in_row row from same i least below))
 
-  pub no_patterns : AreFirstPatterns f style 0 []
-  no_patterns = record { all = λ i below. absurd (omega (arith, below)); only = λ p has. absurd (omega (arith, has.1)) }
+  -- ---- Patterns with the number, or without it.
 
-  pub pattern_again : (n : ℕ) (patterns : List NumberPattern) → AreFirstPatterns f style n patterns
-      → RepeatsAnother f style n → AreFirstPatterns f style (n + 1) patterns
-  pattern_again n patterns are (j, below, alike) = record {
-    all = one_more (λ i. Contains patterns (word_pattern f style (key_at i))) n are.all
-        (subst (Contains patterns) alike.pattern (are.all j below));
-    only = are.only;
-  }
+  module _ (b : Bool) where
+    abbrev HasPattern : List NumberPattern → ℕ → Type 0
+    HasPattern patterns i =
+        has_number_at f style (key_at i) ≡ b → Contains patterns (word_pattern f style (key_at i))
 
-  pub row_patterns : (row : ℕ) (patterns : List NumberPattern) → 216 ≤ row * 216
-      → IsSameBefore f style (key_at (row * 216)).magnitude → AreFirstPatterns f style (row * 216) patterns
-      → AreFirstPatterns f style (row * 216 + 216) patterns
-  row_patterns row patterns from same are = record {
-    all = row_again (λ i. Contains patterns (word_pattern f style (key_at i))) (row * 216) from
-        (λ i least below has. subst (Contains patterns) (in_row row from same i least below).pattern has)
-        are.all;
-    only = are.only;
-  }
+    pattern_alike : (patterns : List NumberPattern) (i j : ℕ) → AreAlike f style (key_at j) (key_at i)
+        → HasPattern patterns j → HasPattern patterns i
+    pattern_alike patterns i j alike has is =
+        subst (Contains patterns) alike.pattern (has (alike.has_number ∙ is))
 
-  pub pattern_more : (n : ℕ) (patterns : List NumberPattern) (p : NumberPattern) → AreFirstPatterns f style n patterns
-      → p ≡ word_pattern f style (key_at n) → AreFirstPatterns f style (n + 1) (patterns ++ p ∷ [])
-  pattern_more n patterns p are is = record {
-    all = one_more (λ i. Contains (patterns ++ p ∷ []) (word_pattern f style (key_at i))) n
-        (λ i below. contains_before patterns p _ (are.all i below))
-        (subst (Contains (patterns ++ p ∷ [])) is (contains_last patterns p));
-    only = λ q has. elim (of_either patterns p q has) [
-      | inl before ↦ are.only q before
-      | inr same ↦ (key_at n, same ∙ is)
-    ];
-  }
+    pub no_patterns : AreFirstPatterns f style b 0 []
+    no_patterns = record {
+      all = λ i below. absurd (omega (arith, below));
+      only = λ p has. absurd (omega (arith, has.1));
+    }
+
+    pub pattern_again : (n : ℕ) (patterns : List NumberPattern) → AreFirstPatterns f style b n patterns
+        → RepeatsAnother f style n → AreFirstPatterns f style b (n + 1) patterns
+    pattern_again n patterns are (j, below, alike) = record {
+      all = one_more (HasPattern patterns) n are.all (pattern_alike patterns n j alike (are.all j below));
+      only = are.only;
+    }
+
+    -- the pattern is none of these
+    pub pattern_other : (n : ℕ) (patterns : List NumberPattern) → AreFirstPatterns f style b n patterns
+        → ¬ (has_number_at f style (key_at n) ≡ b) → AreFirstPatterns f style b (n + 1) patterns
+    pattern_other n patterns are other = record {
+      all = one_more (HasPattern patterns) n are.all (λ is. absurd (other is));
+      only = are.only;
+    }
+
+    pub row_patterns : (row : ℕ) (patterns : List NumberPattern) → 216 ≤ row * 216
+        → IsSameBefore f style (key_at (row * 216)).magnitude → AreFirstPatterns f style b (row * 216) patterns
+        → AreFirstPatterns f style b (row * 216 + 216) patterns
+    row_patterns row patterns from same are = record {
+      all = row_again (HasPattern patterns) (row * 216) from
+          (λ i least below. pattern_alike patterns i (i - 216) (in_row row from same i least below)) are.all;
+      only = are.only;
+    }
+
+    pub pattern_more : (n : ℕ) (patterns : List NumberPattern) (p : NumberPattern)
+        → AreFirstPatterns f style b n patterns → has_number_at f style (key_at n) ≡ b
+        → p ≡ word_pattern f style (key_at n) → AreFirstPatterns f style b (n + 1) (patterns ++ p ∷ [])
+    pattern_more n patterns p are has is = record {
+      all = one_more (HasPattern (patterns ++ p ∷ [])) n
+          (λ i below own. contains_before patterns p _ (are.all i below own))
+          (λ own. subst (Contains (patterns ++ p ∷ [])) is (contains_last patterns p));
+      only = λ q listed. elim (of_either patterns p q listed) [
+        | inl before ↦ are.only q before
+        | inr same ↦ record { key = key_at n; has = has; is = same ∙ is }
+      ];
+    }
 
   module _ (exponents : HasCompactExponents f.notation) where
     pub each_number : AllBelow HasNumberAt 3888 ↔ HasWordNumbers f style
     each_number = (
-      λ all k. let i = index_of f style exponents k in sym i.2.has_number ∙ all i.0 i.1,
+      λ all k. let i = index_of f style exponents k in number_alike (key_at i.0) k i.2 (all i.0 i.1),
       λ has i below. has (key_at i),
     )
 
@@ -135,32 +176,34 @@ module _ (f : NumberFormatter) (style : CompactStyle) where
       λ all k l.
           let i = index_of f style exponents k in
           let j = index_of f style exponents l in
-          subst (AreToldApart f.style.symbols (word_pattern f style k)) j.2.pattern
-          (subst (λ p. AreToldApart f.style.symbols p (word_pattern f style (key_at j.0))) i.2.pattern
-          (all i.0 i.1 j.0 j.1)),
+          apart_right k (key_at j.0) l j.2 (apart_left (key_at i.0) k (key_at j.0) i.2 (all i.0 i.1 j.0 j.1)),
       λ named i below j h. named (key_at i) (key_at j),
+    )
+
+    -- the whole text of a pattern has one meaning
+    pub one_meaning : (p : NumberPattern) → AllBelow (λ i. HasMeaningOf f style p (key_at i)) 3888
+        ↔ HasOneMeaning f style p
+    one_meaning p = (
+      λ all k is.
+          let i = index_of f style exponents k in
+          let at = all i.0 i.1 (record {
+            one = i.3 ∙ is.one;
+            none = i.2.has_number ∙ is.none;
+            same = is.same ∙ ap whole_text (sym i.2.pattern);
+          }) in (
+            at.0 ∙ ap (λ (q : NumberPattern). q.sign) i.2.pattern,
+            at.1 ∙ ap (λ (q : NumberPattern). q.exponent) i.2.pattern,
+          ),
+      λ has i below. has (key_at i),
     )
 
     -- ---- A list of all patterns.
 
-    pub are_patterns : (n : ℕ) (patterns : List NumberPattern) → 3888 ≤ n → AreFirstPatterns f style n patterns
-        → AreWordPatterns f style patterns
-    are_patterns n patterns long are = record {
-      all = λ k.
+    pub are_patterns : (b : Bool) (n : ℕ) (patterns : List NumberPattern) → 3888 ≤ n
+        → AreFirstPatterns f style b n patterns → AreWordPatterns f style b patterns
+    are_patterns b n patterns long are = record {
+      all = λ k has.
           let i = index_of f style exponents k in
-          subst (Contains patterns) i.2.pattern (are.all i.0 (omega (arith, long, i.1)));
+          subst (Contains patterns) i.2.pattern (are.all i.0 (omega (arith, long, i.1)) (i.2.has_number ∙ has));
       only = are.only;
     }
-
-  pub named_by_patterns : (patterns : List NumberPattern) → AreWordPatterns f style patterns
-      → AreNamed f.style.symbols patterns ↔ AreWordsNamed f style
-  named_by_patterns patterns are = (
-    λ named k l. named.pair (word_pattern f style k) (word_pattern f style l) (are.all k) (are.all l),
-    λ words. record {
-      pair = λ p q a b.
-          let k = are.only p a in
-          let l = are.only q b in
-          subst (λ x. AreToldApart f.style.symbols x q) (sym k.1)
-          (subst (AreToldApart f.style.symbols (word_pattern f style k.0)) (sym l.1) (words k.0 l.0));
-    },
-  )

@@ -2,14 +2,15 @@
 use Rattle.std.proofs.{Common.{◌≡◌, ◌==◌, ℕ, zero, suc, Bool, true, false, List, [], ◌++◌, inl, inr, refl, sym, ◌∙◌, ap, subst, arith, append-nil}, lemmas.{Bool.{and_parts, Decides.nat_tests}, Int.{ints, clamps}}}
 use Rattle.std.specs.{Prelude.{◌⊎◌, Option, Some, None, Result, Ok, Err, MatchResult, if◌then◌else◌, ℤ, pos, unsigned_abs, ◌+ℤ◌, ◌-ℤ◌, ◌≤ℤ◌, int_lt}, Int.{int_min}}
 use Rattle.decimal_digits.specs.Number.{first}
-use Rattle.decimal_unsigned.specs.{Unsigned.{IsValue}, declared.error.ParseError.{ParseError, TheVariants.Memory}}
-use Rattle.fixed_decimal.specs.{Decimal.Decimal}
+use Rattle.decimal_unsigned.specs.{Unsigned.{IsValue, one_value}, declared.error.ParseError.{ParseError, TheVariants.Memory}}
+use Rattle.fixed_decimal.specs.{Decimal.Decimal, declared.variations.Sign.Sign}
 use Rattle.fixed_decimal.proofs.Calling.{below_limit, first_zero}
 use Rattle.plural_rules.specs.Operands as operands
 use Rattle.locale_data.specs.{Plurals.IsCategoryAt, declared.compact.CompactStyle.CompactStyle}
 use Rattle.decimal_format.specs.Formatted.{absolute_text}
-use Rattle.number_format.specs.{declared.{digits.options.DigitOptions.DigitOptions, format.formatter.NumberFormatter.NumberFormatter, notation.Notation.Notation, options.{NumberNotation.NumberNotation, NumberStyle.NumberStyle}, read.{compact.keys.CompactKey.CompactKey}}, FormattedNumbers.{visible_text, exponent_text}, AffixedTexts.{between, shifted, IsWrittenBy}, CompactReading.{word_pattern, magnitude_by, is_unit, word_reader, HasCompactExponents, IsOwnInWords, IsReadInWords, IsShownInWords}, NumberReading.{CanRead, CanReadExponents, CanReadNotation, CanReadWords, IsShownAs, KeepsNotation, words_of, AreOwnWordsNamed}, NumberText.{IsNumberText, around_by, bare_separator, compact_magnitude, compact_pattern, compact_power, compact_style, exponent_of, is_one, rounded_in, shown_sign}, ScientificReading.exponent_form, Scaled.{ScaledValue, base_exponent, compact_exponent, exponent_at, IsOrdered}}
-use Rattle.number_format.proofs.lemmas.{format.PieceTexts.{shows_integer, text-of_digits_and_exponent}, notation.Scales.{keeps_exponent, zero_exponent}, read.{AffixedNumbers.two_texts, CompactKeys.{clamped, same_exponent_at}, FormatterTexts.{text_within, some_same}, ShownValues.{scaled_first}}}
+use Rattle.decimal_format.proofs.lemmas.reader.Scans.{begins-append}
+use Rattle.number_format.specs.{declared.{digits.options.DigitOptions.DigitOptions, format.formatter.NumberFormatter.NumberFormatter, notation.Notation.Notation, options.{NumberNotation.NumberNotation, NumberStyle.NumberStyle}, read.{compact.keys.CompactKey.CompactKey}}, FormattedNumbers.{visible_text, exponent_text}, AffixedTexts.{between, shifted, IsWrittenBy}, CompactReading.{has_number_at, inner_at, word_pattern, magnitude_by, is_unit, one_of, word_reader, HasCompactExponents, HasWordNumbers, IsNoWhole, IsOwnInWords, IsOwnKey, IsReadByNumber, IsReadInWords, IsReadShownInWords, IsSaid, IsShownInWords, IsWholeOf}, NumberReading.{CanRead, CanReadExponents, CanReadNotation, CanReadWords, IsShownAs, KeepsNotation, words_of, AreOwnWordsNamed}, NumberText.{IsNumberText, around_by, bare_separator, compact_magnitude, compact_pattern, compact_power, compact_style, exponent_of, is_one, rounded_in, shown_sign}, ScientificReading.exponent_form, Scaled.{ScaledValue, base_exponent, compact_exponent, exponent_at, IsOrdered}}
+use Rattle.number_format.proofs.lemmas.{format.PieceTexts.{shows_integer, text-of_digits_and_exponent}, notation.Scales.{keeps_exponent, zero_exponent}, read.{AffixedNumbers.{two_texts, value_text_is}, CompactKeys.{clamped, same_exponent_at}, FormatterTexts.{inner_by, text_by, some_same}, ShownValues.{scaled_first}}}
 
 -- ---- The exponent.
 
@@ -98,6 +99,17 @@ module _ (n : Notation) (has : HasCompactExponents n) (v : Decimal) (e : ℤ)
 
 -- ---- The text.
 
+-- a number is shown as a whole text
+pub record IsShownWhole (f : NumberFormatter) (style : CompactStyle) (text : List ℕ) (u : Decimal) (e : ℤ)
+    : Type 0 where
+  pub key : CompactKey
+  pub own : IsOwnKey f u key
+  pub whole : IsWholeOf f style text key
+  pub exponent : exponent_at f.notation key.magnitude ≡ e
+
+abbrev pub IsWordText : NumberFormatter → CompactStyle → List ℕ → Decimal → ℤ → Type 0
+IsWordText f style text u e = IsShownInWords f style text u e ⊎ IsShownWhole f style text u e
+
 no_exponent : (n : NumberNotation) (style : NumberStyle) (words : CompactStyle) → compact_style n style ≡ Some words
     → (e : ℤ) → exponent_of n e ≡ None
 no_exponent (NumberNotation.Compact w) style words is e = refl
@@ -138,67 +150,149 @@ module _ (f : NumberFormatter) (style : CompactStyle) (words : words_of f ≡ So
           let has = can_read can.undo.0.0 in
           zero_is f f.digits first.0 shown.number has.1.0 first.1 has.0 first.2 none
 
-      -- the formatter writes the number with its words
-      pub is_shown : (text : List ℕ) → IsNumberText f v text
-          → IsShownInWords f style text u shown.number.exponent
-      is_shown text t =
-          let number = shown.number in
-          let e = number.exponent in
+      -- the key by which the texts are chosen
+      abbrev key_of : (text : List ℕ) → IsNumberText f v text → CompactKey
+      key_of text t = record {
+        magnitude = compact_magnitude f.notation shown.number.significand shown.number.exponent;
+        category = t.1.category;
+        is_one = is_one shown.number.significand;
+        whole = t.1.whole;
+        sign = shown_sign f v shown.number.significand;
+      }
+
+      exponent_of_key : (text : List ℕ) (t : IsNumberText f v text)
+          → exponent_at f.notation (key_of text t).magnitude ≡ shown.number.exponent
+      exponent_of_key text t =
           let has = (can_read can.undo.0.0).1.0 in
-          let k : CompactKey = record {
-            magnitude = compact_magnitude f.notation number.significand e;
-            category = t.1.category;
-            is_one = is_one number.significand;
-            whole = t.1.whole;
-            sign = shown_sign f v number.significand;
-          } in
+          ap (exponent_at f.notation)
+          (magnitude_is f.notation has shown.number.significand shown.number.exponent own_exponent own_zero)
+          ∙ same_above f.notation has shown.number.significand shown.number.exponent own_exponent own_zero
+
+      own_key : (text : List ℕ) (t : IsNumberText f v text) → IsOwnKey f u (key_of text t)
+      own_key text t =
+          let number = shown.number in
+          let has = (can_read can.undo.0.0).1.0 in
           let same : t.1.number ≡ number = some_same _ _ (sym t.1.number_is ∙ shown.number_is) in
-          let magnitude = magnitude_is f.notation has number.significand e own_exponent own_zero in
-          let at = ap (exponent_at f.notation) magnitude
-          ∙ same_above f.notation has number.significand e own_exponent own_zero in
+          record {
+            magnitude = magnitude_is f.notation has number.significand number.exponent own_exponent own_zero
+                ∙ (λ i. magnitude_by (sym shown.absolute i) (sym (exponent_of_key text t) i));
+            category = subst (λ a. IsCategoryAt f.rules (operands.plain a) t.1.category)
+                (ap (λ (x : ScaledValue). x.significand.absolute) same ∙ sym shown.absolute) t.1.of_significand;
+            is_one = λ one. ap is_unit shown.absolute ∙ (and_parts _ _ one).1;
+            sign = sym shown.sign;
+          }
+
+      inner_of : (text : List ℕ) (t : IsNumberText f v text)
+          → inner_by f v shown.number t.1.category ≡ inner_at f style (key_of text t)
+      inner_of text t =
+          let k = key_of text t in
+          ap (λ w. around_by f.style k.sign (compact_pattern f.formats w k.magnitude k.category k.is_one)) words
+
+      shown_by : (text : List ℕ) (t : IsNumberText f v text) (b : Bool)
+          → has_number_at f style (key_of text t) ≡ b → IsWordText f style text u shown.number.exponent
+      shown_by text t true has =
           let digits = absolute_text f.style.symbols f.options.grouping u.absolute in
-          let shown_exponent = exponent_of f.options.notation e in record {
-            key = k;
-            own = record {
-              magnitude = magnitude
-                  ∙ (λ i. magnitude_by (sym shown.absolute i) (sym at i));
-              category = subst (λ a. IsCategoryAt f.rules (operands.plain a) t.1.category)
-                  (ap (λ (x : ScaledValue). x.significand.absolute) same ∙ sym shown.absolute) t.1.of_significand;
-              is_one = λ one. ap is_unit shown.absolute ∙ (and_parts _ _ one).1;
-              sign = sym shown.sign;
-            };
-            exponent = at;
+          let e = shown.number.exponent in
+          inl (record {
+            key = key_of text t;
+            own = own_key text t;
+            has = has;
+            exponent = exponent_of_key text t;
             strategy = f.options.grouping;
-            is = text_within f v u text can.undo.1 t shown _
-                (ap (λ w. around_by f.style k.sign (compact_pattern f.formats w k.magnitude k.category k.is_one)) words)
-                ((can_read can.undo.0.0).1.1 k)
-                ∙ ap (between (word_pattern f style k))
-                (text-of_digits_and_exponent f u.absolute shown_exponent
-                ∙ (λ i. (visible_text (shows_integer f.digits f.options.decimal_separator u.absolute can.undo.0.2 i)
+            is = text_by f v u text can.undo.1 t shown _ (inner_of text t) true has
+                ∙ ap (between (word_pattern f style (key_of text t)))
+                (text-of_digits_and_exponent f u.absolute (exponent_of f.options.notation e)
+                ∙ (λ i. (visible_text
+                (shows_integer f.digits f.options.decimal_separator u.absolute can.undo.0.2 i)
                 f.style.symbols f.options.grouping u.absolute
                 ++ bare_separator (can.undo.0.1 i) f.style.symbols u.absolute)
                 ++ exponent_text f (no_exponent f.options.notation f.options.style style words e i))
                 ∙ append-nil (digits ++ []) ∙ append-nil digits);
-          }
+          })
+      shown_by text t false none =
+          inr (record {
+            key = key_of text t;
+            own = own_key text t;
+            whole = record {
+              none = none;
+              is = text_by f v u text can.undo.1 t shown _ (inner_of text t) false none;
+            };
+            exponent = exponent_of_key text t;
+          })
+
+      -- the formatter writes the number with its words, or as a whole text
+      pub is_shown : (text : List ℕ) → IsNumberText f v text
+          → IsWordText f style text u shown.number.exponent
+      is_shown text t = shown_by text t (has_number_at f style (key_of text t)) refl
+
+    -- ---- Whole texts.
+
+    has_words : HasWordNumbers f style
+    has_words = (can_read can.undo.0.0).1.1
+
+    -- a text with a number is none
+    no_whole : (text : List ℕ) (u : Decimal) (e : ℤ) → IsValue u.absolute → IsShownInWords f style text u e
+        → IsNoWhole f style text
+    no_whole text u e valid shown k whole =
+        let p = word_pattern f style shown.key in
+        let digits = absolute_text f.style.symbols shown.strategy u.absolute in
+        (has_words k whole.none).no_digit p.affixes.prefix (digits ++ p.affixes.suffix) (sym whole.is ∙ shown.is)
+        (begins-append f.style.symbols digits p.affixes.suffix
+        (value_text_is f.style.symbols shown.strategy u valid).begins)
+
+    -- two keys of a whole text have one meaning
+    one_meaning : (text : List ℕ) (k l : CompactKey) → IsWholeOf f style text k → IsWholeOf f style text l
+        → (k.sign ≡ l.sign) × (exponent_at f.notation k.magnitude ≡ exponent_at f.notation l.magnitude)
+    one_meaning text k l a b =
+        (has_words k a.none).meaning l
+        (record { one = (has_words l b.none).one; none = b.none; same = sym a.is ∙ b.is })
+
+    said_whole : (text : List ℕ) (u : Decimal) (e : ℤ) (shown : IsShownWhole f style text u e) (s : Sign)
+        → s ≡ u.sign → IsSaid f style text u (record { sign = s; absolute = one_value })
+    said_whole text u e shown s sign =
+        inr (
+          shown.key,
+          shown.whole,
+          shown.own.is_one (has_words shown.key shown.whole.none).one,
+          λ i. record { sign = sign i; absolute = one_value },
+        )
+
+    -- ---- What the text says.
 
     -- one text is shown of one number
     pub one_number : (text : List ℕ) (x y : Decimal) (d e : ℤ) → IsValue x.absolute → IsValue y.absolute
-        → IsShownInWords f style text x d → IsShownInWords f style text y e → (x ≡ y) × (d ≡ e)
-    one_number text x y d e valid valid' a b =
+        → IsWordText f style text x d → IsWordText f style text y e
+        → (z : Decimal) × IsSaid f style text x z × IsSaid f style text y z × (d ≡ e)
+    one_number text x y d e valid valid' (inl a) (inl b) =
         let same = two_texts f.style.symbols can.readable (word_pattern f style a.key) (word_pattern f style b.key)
-        (named a.key b.key) x y valid valid' a.own.sign b.own.sign a.strategy b.strategy (sym a.is ∙ b.is) in
-        (same.1, sym a.exponent ∙ same.0.2 ∙ b.exponent)
+        (named a.key b.key a.has b.has) x y valid valid' a.own.sign b.own.sign a.strategy b.strategy
+        (sym a.is ∙ b.is) in
+        let none = no_whole text x d valid a in
+        (x, inl (none, refl), inl (none, same.1), sym a.exponent ∙ same.0.2 ∙ b.exponent)
+    one_number text x y d e valid valid' (inr a) (inr b) =
+        let same = one_meaning text a.key b.key a.whole b.whole in (
+          record { sign = x.sign; absolute = one_value },
+          said_whole text x d a x.sign refl,
+          said_whole text y e b x.sign (sym a.own.sign ∙ same.0 ∙ b.own.sign),
+          sym a.exponent ∙ same.1 ∙ b.exponent,
+        )
+    one_number text x y d e valid valid' (inl a) (inr b) = absurd (no_whole text x d valid a b.key b.whole)
+    one_number text x y d e valid valid' (inr a) (inl b) = absurd (no_whole text y e valid' b a.key a.whole)
 
-    -- what is shown is read back
-    pub reads : (inline : ℕ) (text : List ℕ) (u : Decimal) (e : ℤ) (result : Result Decimal ParseError)
-        → IsValue u.absolute → IsShownInWords f style text u e → IsReadInWords inline f style text result
-        → (result ≡ shifted (pos 0 -ℤ f.options.scale) (shifted e (Ok u))) ⊎ (result ≡ Err Memory)
-    reads inline text u e result valid shown (read, (patterns, found, are, is, own), made) =
+    abbrev IsReadAs : List ℕ → Decimal → ℤ → Result Decimal ParseError → Type 0
+    IsReadAs text u e read =
+        (w : Decimal) × IsSaid f style text u w × ((read ≡ shifted e (Ok w)) ⊎ (read ≡ Err Memory))
+
+    -- what is shown with a number is read back
+    reads_number : (inline : ℕ) (text : List ℕ) (u : Decimal) (e : ℤ) (read : Result Decimal ParseError)
+        → IsValue u.absolute → IsShownInWords f style text u e → IsReadByNumber inline f style text read
+        → (read ≡ shifted e (Ok u)) ⊎ (read ≡ Err Memory)
+    reads_number inline text u e read valid shown (patterns, found, are, is, own) =
         go found own (is.reads_back u valid (word_pattern f style shown.key, written))
       where
         written : IsWrittenBy (word_reader f patterns) text u (word_pattern f style shown.key)
         written = record {
-          listed = are.all shown.key;
+          listed = are.all shown.key shown.has;
           sign = shown.own.sign;
           strategy = shown.strategy;
           is = shown.is;
@@ -206,10 +300,40 @@ module _ (f : NumberFormatter) (style : CompactStyle) (words : words_of f ≡ So
 
         go : (found : Result Decimal ParseError) → IsOwnInWords f style text found read
             → MatchResult found (λ x. x ≡ u) (λ x. x ≡ Memory)
-            → (result ≡ shifted (pos 0 -ℤ f.options.scale) (shifted e (Ok u))) ⊎ (result ≡ Err Memory)
+            → (read ≡ shifted e (Ok u)) ⊎ (read ≡ Err Memory)
         go (Ok x) (inl own) same =
             let here = subst (λ w. IsShownInWords f style text w own.0) same own.1 in
-            let one = one_number text u u own.0 e valid valid here shown in
-            inl (made ∙ ap (shifted (pos 0 -ℤ f.options.scale)) (own.2 ∙ (λ i. shifted (one.1 i) (Ok (same i)))))
+            let one = one_number text u u own.0 e valid valid (inl here) (inl shown) in
+            inl (own.2 ∙ (λ i. shifted (one.3 i) (Ok (same i))))
         go (Ok x) (inr other) same = absurd (other.0 e (subst (λ w. IsShownInWords f style text w e) (sym same) shown))
-        go (Err x) own memory = inr (made ∙ ap (shifted (pos 0 -ℤ f.options.scale)) (own ∙ ap Err memory))
+        go (Err x) own memory = inr (own ∙ ap Err memory)
+
+    -- what is shown is read back
+    reads_shown : (inline : ℕ) (text : List ℕ) (u : Decimal) (e : ℤ) (read : Result Decimal ParseError)
+        → IsValue u.absolute → IsWordText f style text u e → IsReadShownInWords inline f style text read
+        → IsReadAs text u e read
+    reads_shown inline text u e read valid (inl shown) (inl (k, whole, is)) =
+        absurd (no_whole text u e valid shown k whole)
+    reads_shown inline text u e read valid (inl shown) (inr (none, is)) =
+        (u, inl (none, refl), reads_number inline text u e read valid shown is)
+    reads_shown inline text u e read valid (inr shown) (inl (k, whole, is)) =
+        let same = one_meaning text k shown.key whole shown.whole in (
+          one_of k,
+          said_whole text u e shown k.sign (same.0 ∙ shown.own.sign),
+          inl (is ∙ ap (λ z. shifted z (Ok (one_of k))) (same.1 ∙ shown.exponent)),
+        )
+    reads_shown inline text u e read valid (inr shown) (inr (none, is)) = absurd (none shown.key shown.whole)
+
+    pub reads : (inline : ℕ) (text : List ℕ) (u : Decimal) (e : ℤ) (result : Result Decimal ParseError)
+        → IsValue u.absolute → IsWordText f style text u e → IsReadInWords inline f style text result
+        → (w : Decimal) × IsSaid f style text u w
+        × ((result ≡ shifted (pos 0 -ℤ f.options.scale) (shifted e (Ok w))) ⊎ (result ≡ Err Memory))
+    reads inline text u e result valid shown (read, is, made) =
+        let shows = reads_shown inline text u e read valid shown is in (
+          shows.0,
+          shows.1,
+          elim shows.2 [
+            | inl value ↦ inl (made ∙ ap (shifted (pos 0 -ℤ f.options.scale)) value)
+            | inr memory ↦ inr (made ∙ ap (shifted (pos 0 -ℤ f.options.scale)) memory)
+          ],
+        )

@@ -79,9 +79,9 @@ none_key f words alone c s own e = record {
 
 -- ---- The text.
 
-within_number : (a : Around) (pieces : List Piece) → a.has_number ≡ true
-    → within a pieces ≡ a.prefix ++ (pieces ++ a.suffix)
-within_number a pieces has = ap (λ (b : Bool). a.prefix ++ ((if b then pieces else []) ++ a.suffix)) has
+within_number : (a : Around) (pieces : List Piece) (b : Bool) → a.has_number ≡ b
+    → within a pieces ≡ a.prefix ++ ((if b then pieces else []) ++ a.suffix)
+within_number a pieces b has = ap (λ (b : Bool). a.prefix ++ ((if b then pieces else []) ++ a.suffix)) has
 
 -- the text of pieces within what is around them and what is around the whole text
 text_around : (outer inner : Around) (pieces : List Piece)
@@ -107,14 +107,15 @@ inner_by f v number category =
     (compact_pattern f.formats (words_of f) (compact_magnitude f.notation number.significand number.exponent) category
     (is_one number.significand))
 
--- the text of a number is that of the number that is shown, between these texts
-pub text_within : (f : NumberFormatter) (v u : Decimal) (text : List ℕ) → HasNumbers f → (t : IsNumberText f v text)
+-- the text of a number is that of the number that is shown, between these texts, or these texts alone
+pub text_by : (f : NumberFormatter) (v u : Decimal) (text : List ℕ) → HasNumbers f → (t : IsNumberText f v text)
     (shown : IsShownAs f v u) (inner : Around) → inner_by f v shown.number t.1.category ≡ inner
-    → inner.has_number ≡ true
+    → (b : Bool) → inner.has_number ≡ b
     → text ≡ (pieces_text (outer_by f t.1.whole).prefix ++ pieces_text inner.prefix)
-    ++ (pieces_text (number_part f u.absolute (exponent_of f.options.notation shown.number.exponent))
+    ++ (pieces_text
+    (if b then number_part f u.absolute (exponent_of f.options.notation shown.number.exponent) else [])
     ++ (pieces_text inner.suffix ++ pieces_text (outer_by f t.1.whole).suffix))
-text_within f v u text has (pieces, is, of_pieces) shown inner chosen some =
+text_by f v u text has (pieces, is, of_pieces) shown inner chosen b some =
     let number : is.number ≡ shown.number = some_same _ _ (sym is.number_is ∙ shown.number_is) in
     let outer = outer_by f is.whole in
     let part = number_part f u.absolute (exponent_of f.options.notation shown.number.exponent) in
@@ -124,9 +125,9 @@ text_within f v u text has (pieces, is, of_pieces) shown inner chosen some =
     (number_part f (number i).significand.absolute (exponent_of f.options.notation (number i).exponent)))))
     ∙ (λ i. pieces_text (within outer (within (chosen i)
     (number_part f (sym shown.absolute i) (exponent_of f.options.notation shown.number.exponent)))))
-    ∙ ap (λ inside. pieces_text (within outer inside)) (within_number inner part some)
-    ∙ ap pieces_text (within_number outer _ (has is.whole))
-    ∙ text_around outer inner part
+    ∙ ap (λ inside. pieces_text (within outer inside)) (within_number inner part b some)
+    ∙ ap pieces_text (within_number outer _ true (has is.whole))
+    ∙ text_around outer inner (if b then part else [])
 
 -- the text of a number without words is that of the number that is shown, between the texts of a pattern of its
 -- category and sign
@@ -139,9 +140,9 @@ text_between f v u text words has t shown own key =
     let number = shown.number in
     let s = shown_sign f v number.significand in
     let e = exponent_of f.options.notation number.exponent in
-    text_within f v u text has t shown (pattern_around f.style s) (ap (λ w. around_by f.style s
+    text_by f v u text has t shown (pattern_around f.style s) (ap (λ w. around_by f.style s
     (compact_pattern f.formats w (compact_magnitude f.notation number.significand number.exponent) t.1.category
-    (is_one number.significand))) words) refl
+    (is_one number.significand))) words) true refl
     ∙ (λ i. (pieces_text (sym key.outer i).prefix ++ (affixes_for f.style (sym key.sign i)).prefix)
     ++ (pieces_text (number_part f u.absolute e)
     ++ ((affixes_for f.style (sym key.sign i)).suffix ++ pieces_text (sym key.outer i).suffix)))

@@ -4,7 +4,7 @@ use Rattle.std.specs.Str.{IsUtf8, chars, encode_utf8_all}
 use Rattle.std.specs.Prelude.{zero, suc, Result}
 use Rattle.decimal_unsigned.specs.declared.error.ParseError.{ParseError}
 use Rattle.fixed_decimal.specs.Decimal.{Decimal}
-use Rattle.number_format.specs.TypedWords.{is_kept, lowered, folded, IsTrimmed, IsSkipped, IsKeptFirst, FollowsWord, IsCut, IsWithoutWord, IsReadWithout, IsMeaning, Typing}
+use Rattle.number_format.specs.TypedWords.{is_kept, lowered, folded, IsSkipped, IsKeptFirst, FollowsWord, IsCut, IsWithoutWord, IsReadWithout, IsMeaning, Typing}
 
 folded_kept : (c : ℕ) (cs : List ℕ) → is_kept c ≡ true → folded (c ∷ cs) ≡ lowered c ∷ folded cs
 folded_kept c cs kept = rw kept

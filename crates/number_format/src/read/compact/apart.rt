@@ -1,7 +1,7 @@
 //! Whether the texts of compact notation can be told apart, without an allocation.
 ghost use Rattle.std.specs.Prelude.{◌≡◌, ◌↔◌, ◌<◌, IsTrue};
 ghost use Rattle.decimal_format.specs.Readable.{IsReadable};
-ghost use Rattle.number_format.specs.{AffixedTexts.AreToldApart, CompactReading.{word_pattern, key_at, HasCompactExponents, IsIndexApart, AreWordsNamed}};
+ghost use Rattle.number_format.specs.{CompactReading.{key_at, AreKeysApart, HasCompactExponents, IsIndexApart, AreWordsNamed}};
 
 use crate::format::formatter::NumberFormatter;
 use crate::read::apart::are_told_apart;
@@ -11,9 +11,14 @@ use locale_data::CompactStyle;
 impl NumberFormatter {
     fn are_pair_told(&self, style: CompactStyle, first: CompactKey, second: CompactKey) -> bool
         requires { IsReadable self.now.style.symbols }
-        ensures { IsTrue result ↔ AreToldApart self.now.style.symbols (word_pattern self.now style first)
-            (word_pattern self.now style second) }
+        ensures { IsTrue result ↔ AreKeysApart self.now style first second }
     {
+        if !self.has_number_in(style, first) {
+            return true;
+        }
+        if !self.has_number_in(style, second) {
+            return true;
+        }
         let texts = self.word_texts(style, first);
         let others = self.word_texts(style, second);
         let meaning = (first.sign, self.notation.exponent_at(first.magnitude));

@@ -123,159 +123,135 @@ fn without_word(front: &str, tail: &str, word: &str) -> Option<ArrayString<255>>
     Some(left)
 }
 
-/// A text that people type, cut after its last digit, and what may be around its number.
+/// A typed text, cut after its last digit, and what it is read by: the words of a formatter, and a reader of numbers
+/// without words, with what may be around these.
 #[derive(Clone, Copy)]
 pub(crate) struct TypedText<'t> {
+    formatter: &'t NumberFormatter,
     style: CompactStyle,
+    plain: &'t AffixReader<'t>,
     alternatives: &'t [Alternative<'t>],
     text: &'t str,
     front: &'t str,
     tail: &'t str,
 }
 
-impl NumberFormatter {
+impl TypedText<'_> {
     fn power(&self, index: usize) -> i32
         requires { index < 216 }
-        ensures value { result ≡ power_of self.now index }
+        ensures value { result ≡ power_of self.now.formatter.now index }
         ensures range { (pos 0 ≤ℤ result) × (result ≤ℤ pos 255) }
     {
-        self.notation.exponent_at(key_at(18 * index).magnitude)
+        self.formatter
+            .notation
+            .exponent_at(key_at(18 * index).magnitude)
     }
 
-    fn word_after(&self, style: CompactStyle, index: usize) -> &'static str
+    fn word(&self, index: usize) -> &'static str
         requires { index < 216 }
-        ensures { result.now ≡ word_of self.now style index }
+        ensures { result.now ≡ word_of self.now.formatter.now self.now.style index }
     {
-        match (&self.outer, self.word(style, key_at(18 * index))) {
+        let pattern = self.formatter.word(self.style, key_at(18 * index));
+        match (&self.formatter.outer, pattern) {
             (OuterTexts::None, Some(pattern)) => pattern.suffix.before_text(),
             _ => "",
         }
     }
 
-    fn read_without<D: DigitStore>(
+    fn read_without_word<D: DigitStore>(
         &self,
-        plain: &AffixReader<'_>,
         alloc: Global,
-        typed: &TypedText<'_>,
         index: usize,
     ) -> Result<Signed<UnsignedOver<D>>, ParseError>
         requires { index < 216 }
-        ensures { IsReadWithout (typing D.L self.now plain.now typed.now) index result }
+        ensures { IsReadWithout (typing D.L self.now) index result }
     {
-        let word = self.word_after(typed.style, index);
-        let Some(left) = without_word(typed.front, typed.tail, word) else {
+        let Some(left) = without_word(self.front, self.tail, self.word(index)) else {
             return Err(ParseError::Syntax);
         };
-        let read = plain.read_typed(alloc, typed.alternatives, left.as_str());
+        let read = self
+            .plain
+            .read_typed(alloc, self.alternatives, left.as_str());
         shifted(read, self.power(index) as i16)
     }
 
     fn read_meaning<D: DigitStore>(
         &self,
-        plain: &AffixReader<'_>,
         alloc: Global,
-        typed: &TypedText<'_>,
         index: usize,
     ) -> Result<Signed<UnsignedOver<D>>, ParseError>
         requires { index < 216 }
-        ensures { IsMeaning (typing D.L self.now plain.now typed.now) index result }
+        ensures { IsMeaning (typing D.L self.now) index result }
     {
         if index == 0 {
-            return plain.read_typed(alloc, typed.alternatives, typed.text);
+            return self.plain.read_typed(alloc, self.alternatives, self.text);
         }
-        self.read_without(plain, alloc, typed, index)
+        self.read_without_word(alloc, index)
     }
 
-    fn fits<D: DigitStore>(
-        &self,
-        plain: &AffixReader<'_>,
-        alloc: Global,
-        typed: &TypedText<'_>,
-        index: usize,
-    ) -> bool
+    fn fits<D: DigitStore>(&self, alloc: Global, index: usize) -> bool
         requires { index < 216 }
-        ensures yes { OnTrue result (Fits (typing D.L self.now plain.now typed.now) index) }
-        ensures no { OnFalse result (IsMeaning (typing D.L self.now plain.now typed.now) index (Err Syntax)) }
+        ensures yes { OnTrue result (Fits (typing D.L self.now) index) }
+        ensures no { OnFalse result (IsMeaning (typing D.L self.now) index (Err Syntax)) }
     {
-        match self.read_meaning::<D>(plain, alloc, typed, index) {
+        match self.read_meaning::<D>(alloc, index) {
             Err(ParseError::Syntax) => false,
             _ => true,
         }
     }
 
-    fn first_fit<D: DigitStore>(
-        &self,
-        plain: &AffixReader<'_>,
-        alloc: Global,
-        typed: &TypedText<'_>,
-    ) -> Option<usize>
+    fn first_fit<D: DigitStore>(&self, alloc: Global) -> Option<usize>
         ensures { MatchOption result
-            ((i : ℕ) → i < 216 → IsMeaning (typing D.L self.now plain.now typed.now) i (Err Syntax))
-            (λ i. (i < 216) × Fits (typing D.L self.now plain.now typed.now) i) }
+            ((i : ℕ) → i < 216 → IsMeaning (typing D.L self.now) i (Err Syntax))
+            (λ i. (i < 216) × Fits (typing D.L self.now) i) }
     {
         for index in 0..216 {
-            if self.fits::<D>(plain, alloc, typed, index) {
+            if self.fits::<D>(alloc, index) {
                 return Some(index);
             }
         }
         None
     }
 
-    fn fits_other<D: DigitStore>(
-        &self,
-        plain: &AffixReader<'_>,
-        alloc: Global,
-        typed: &TypedText<'_>,
-        index: usize,
-        power: i32,
-    ) -> bool
+    fn fits_other<D: DigitStore>(&self, alloc: Global, index: usize, power: i32) -> bool
         requires { index < 216 }
-        ensures yes { OnTrue result ((power_of self.now index ≢ power)
-            × Fits (typing D.L self.now plain.now typed.now) index) }
-        ensures no { OnFalse result (power_of self.now index ≢ power
-            → IsMeaning (typing D.L self.now plain.now typed.now) index (Err Syntax)) }
+        ensures yes { OnTrue result ((power_of self.now.formatter.now index ≢ power)
+            × Fits (typing D.L self.now) index) }
+        ensures no { OnFalse result (power_of self.now.formatter.now index ≢ power
+            → IsMeaning (typing D.L self.now) index (Err Syntax)) }
     {
         if are_same_powers(self.power(index), power) {
             return false;
         }
-        self.fits::<D>(plain, alloc, typed, index)
+        self.fits::<D>(alloc, index)
     }
 
-    fn has_other<D: DigitStore>(
-        &self,
-        plain: &AffixReader<'_>,
-        alloc: Global,
-        typed: &TypedText<'_>,
-        power: i32,
-    ) -> bool
-        ensures yes { OnTrue result (HasOther (typing D.L self.now plain.now typed.now) power) }
-        ensures no { OnFalse result (HasNoOther (typing D.L self.now plain.now typed.now) power) }
+    fn has_other<D: DigitStore>(&self, alloc: Global, power: i32) -> bool
+        ensures yes { OnTrue result (HasOther (typing D.L self.now) power) }
+        ensures no { OnFalse result (HasNoOther (typing D.L self.now) power) }
     {
         for index in 0..216 {
-            if self.fits_other::<D>(plain, alloc, typed, index, power) {
+            if self.fits_other::<D>(alloc, index, power) {
                 return true;
             }
         }
         false
     }
 
-    fn read_one<D: DigitStore>(
-        &self,
-        plain: &AffixReader<'_>,
-        alloc: Global,
-        typed: &TypedText<'_>,
-    ) -> Result<Signed<UnsignedOver<D>>, ParseError>
-        ensures { IsOneMeaning (typing D.L self.now plain.now typed.now) result }
+    fn read<D: DigitStore>(&self, alloc: Global) -> Result<Signed<UnsignedOver<D>>, ParseError>
+        ensures { IsOneMeaning (typing D.L self.now) result }
     {
-        let Some(index) = self.first_fit::<D>(plain, alloc, typed) else {
+        let Some(index) = self.first_fit::<D>(alloc) else {
             return Err(ParseError::Syntax);
         };
-        if self.has_other::<D>(plain, alloc, typed, self.power(index)) {
+        if self.has_other::<D>(alloc, self.power(index)) {
             return Err(ParseError::Syntax);
         }
-        self.read_meaning(plain, alloc, typed, index)
+        self.read_meaning(alloc, index)
     }
+}
 
+impl NumberFormatter {
     /// Reads a number as people type it, with a word after its last digit or without one.
     ///
     /// In the word white space, marks, periods and the case of letters do not matter. A text with two meanings, by
@@ -293,12 +269,14 @@ impl NumberFormatter {
     {
         let (front, tail) = split_number(text);
         let typed = TypedText {
+            formatter: self,
             style,
+            plain,
             alternatives,
             text,
             front,
             tail,
         };
-        self.read_one(plain, alloc, &typed)
+        typed.read(alloc)
     }
 }

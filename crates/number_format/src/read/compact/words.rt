@@ -1,7 +1,7 @@
 //! The texts around numbers in compact notation.
 ghost use Rattle.std.specs.{Prelude.{◌≡◌, ◌↔◌, ◌<◌, ◌≤◌, ◌+◌, ◌*◌, ◌≤ℤ◌, pos, IsTrue, IfSome, IfOk, OnOk}, Option.option_copied};
 ghost use Rattle.locale_data.specs.Compact.{pattern_for, patterns_in, compact_patterns, AreTexts};
-ghost use Rattle.number_format.specs.{CompactReading.{inner_at, word_pattern, key_at, is_of_one, is_of_other, IsSameBefore, RepeatsAnother, HasCompactExponents, HasWordNumbers, HaveNumbersBelow, AreWordPatterns, AreFirstPatterns}, NumberText.AreParts};
+ghost use Rattle.number_format.specs.{CompactReading.{inner_at, has_number_at, word_pattern, key_at, is_of_one, is_of_other, IsSameBefore, RepeatsAnother, HasCompactExponents, AreWordPatterns, AreFirstPatterns}, NumberText.AreParts};
 
 use crate::format::affixes::NumberAffixes;
 use crate::format::formatter::NumberFormatter;
@@ -67,6 +67,13 @@ impl NumberFormatter {
         self.style.affixes(key.sign, self.word(style, key))
     }
 
+    /// Returns whether a number is between the texts of a key, which else are a whole text.
+    pub(crate) fn has_number_in(&self, style: CompactStyle, key: CompactKey) -> bool
+        ensures { result ≡ has_number_at self.now style key }
+    {
+        self.inner_at(style, key).has_number
+    }
+
     /// Returns the texts around a number.
     pub(crate) fn word_texts(&self, style: CompactStyle, key: CompactKey) -> ShortAffixes<2550>
         ensures { result ≡ (word_pattern self.now style key).affixes }
@@ -89,7 +96,8 @@ impl NumberFormatter {
         are_same_powers(exponent, self.notation.exponent_at(before))
     }
 
-    fn is_same_row(&self, style: CompactStyle, index: usize) -> bool
+    /// Returns whether the texts of a key are those of the one a magnitude below.
+    pub(crate) fn is_same_row(&self, style: CompactStyle, index: usize) -> bool
         requires { index < 3888 }
         ensures { IsTrue result → (216 ≤ index) × IsSameBefore self.now style (key_at index).magnitude }
     {
@@ -99,7 +107,8 @@ impl NumberFormatter {
         self.is_same_before(style, key_at(index).magnitude)
     }
 
-    fn repeats_in_row(&self, style: CompactStyle, index: usize) -> bool
+    /// Returns whether the texts of a key are those of another category, or of the numbers that are not 1.
+    pub(crate) fn repeats_in_row(&self, style: CompactStyle, index: usize) -> bool
         requires { index < 3888 }
         ensures { IsTrue result → RepeatsAnother self.now style index }
     {
@@ -122,44 +131,6 @@ impl NumberFormatter {
         self.is_same_row(style, index) || self.repeats_in_row(style, index)
     }
 
-    fn has_number_at(&self, style: CompactStyle, index: usize) -> bool
-        requires listed { index < 3888 }
-        requires before { HaveNumbersBelow self.now style index }
-        ensures { IsTrue result ↔ HaveNumbersBelow self.now style (index + 1) }
-    {
-        self.repeats_in_row(style, index) || self.inner_at(style, key_at(index)).has_number
-    }
-
-    fn have_row_numbers(&self, style: CompactStyle, row: usize) -> bool
-        requires listed { row < 18 }
-        requires before { HaveNumbersBelow self.now style (row * 216) }
-        ensures { IsTrue result ↔ HaveNumbersBelow self.now style (row * 216 + 216) }
-    {
-        let start = row * 216;
-        if self.is_same_row(style, start) {
-            return true;
-        }
-        for index in start..start + 216 {
-            if !self.has_number_at(style, index) {
-                return false;
-            }
-        }
-        true
-    }
-
-    /// Returns whether each text has a number: `mille` has none.
-    pub(crate) fn has_word_numbers(&self, style: CompactStyle) -> bool
-        requires { HasCompactExponents self.now.notation }
-        ensures { IsTrue result ↔ HasWordNumbers self.now style }
-    {
-        for row in 0..18 {
-            if !self.have_row_numbers(style, row) {
-                return false;
-            }
-        }
-        true
-    }
-
     fn word_pattern(
         &self,
         alloc: Global,
@@ -178,18 +149,32 @@ impl NumberFormatter {
         })
     }
 
+    fn is_of_kind(&self, style: CompactStyle, has_number: bool, key: CompactKey) -> bool
+        ensures { IsTrue result ↔ (has_number_at self.now style key ≡ has_number) }
+    {
+        let own = self.has_number_in(style, key);
+        if has_number {
+            return own;
+        }
+        !own
+    }
+
     fn push_word(
         &self,
         alloc: Global,
         style: CompactStyle,
+        has_number: bool,
         index: usize,
         patterns: &mut Vec<NumberPattern>,
     ) -> Result<(), AllocError>
         requires listed { index < 3888 }
-        requires before { AreFirstPatterns self.now style index patterns.old.items }
-        ensures { OnOk result (AreFirstPatterns self.now style (index + 1) patterns.new.items) }
+        requires before { AreFirstPatterns self.now style has_number index patterns.old.items }
+        ensures { OnOk result (AreFirstPatterns self.now style has_number (index + 1) patterns.new.items) }
     {
         if self.repeats_in_row(style, index) {
+            return Ok(());
+        }
+        if !self.is_of_kind(style, has_number, key_at(index)) {
             return Ok(());
         }
         patterns.push(self.word_pattern(alloc, style, key_at(index))?)?;
@@ -200,35 +185,37 @@ impl NumberFormatter {
         &self,
         alloc: Global,
         style: CompactStyle,
+        has_number: bool,
         row: usize,
         patterns: &mut Vec<NumberPattern>,
     ) -> Result<(), AllocError>
         requires listed { row < 18 }
-        requires before { AreFirstPatterns self.now style (row * 216) patterns.old.items }
-        ensures { OnOk result (AreFirstPatterns self.now style (row * 216 + 216) patterns.new.items) }
+        requires before { AreFirstPatterns self.now style has_number (row * 216) patterns.old.items }
+        ensures { OnOk result (AreFirstPatterns self.now style has_number (row * 216 + 216) patterns.new.items) }
     {
         let start = row * 216;
         if self.is_same_row(style, start) {
             return Ok(());
         }
         for index in start..start + 216 {
-            self.push_word(alloc, style, index, patterns)?;
+            self.push_word(alloc, style, has_number, index, patterns)?;
         }
         Ok(())
     }
 
-    /// Returns the texts around numbers, each of them once.
+    /// Returns the texts around numbers, or else the whole texts; each of them once.
     pub(crate) fn word_patterns(
         &self,
         alloc: Global,
         style: CompactStyle,
+        has_number: bool,
     ) -> Result<Vec<NumberPattern>, AllocError>
         requires { HasCompactExponents self.now.notation }
-        ensures { IfOk result (λ patterns. AreWordPatterns self.now style patterns.items) }
+        ensures { IfOk result (λ patterns. AreWordPatterns self.now style has_number patterns.items) }
     {
         let mut patterns = Vec::new(alloc);
         for row in 0..18 {
-            self.push_words(alloc, style, row, &mut patterns)?;
+            self.push_words(alloc, style, has_number, row, &mut patterns)?;
         }
         Ok(patterns)
     }

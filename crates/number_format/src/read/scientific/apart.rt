@@ -3,7 +3,7 @@ ghost use Rattle.std.specs.Prelude.{◌≡◌, ◌↔◌, ◌<◌, IsTrue};
 ghost use Rattle.decimal_format.specs.Readable.{code, BeginsWith};
 ghost use Rattle.number_format.specs.ScientificReading.{AreApart, IsSeparatorApart};
 
-use crate::read::scientific::scan::{cut, cut_code};
+use crate::read::cut::{cut, cut_code};
 use decimal_format::DecimalSymbols;
 
 fn begins_code(symbols: &DecimalSymbols<'_>, index: u8, text: &[u8]) -> bool

@@ -6,7 +6,8 @@ ghost use Rattle.decimal_format.specs.{Readable.{IsReadable, BeginsWithDigit, Be
 ghost use Rattle.number_format.specs.{NumberText.exponent_sign, ScientificReading.{least_digits, HasLeastDigits, capped, capped_exponent, exponent_number, IsExponent, HasExponent}};
 
 use crate::options::{ExponentOptions, ExponentSign};
-use crate::read::scientific::scan::{cut, scan_number};
+use crate::read::cut::cut;
+use crate::read::scientific::scan::scan_number;
 use decimal_format::DecimalSymbols;
 use fixed_decimal::Sign;
 

@@ -3,6 +3,7 @@ ghost use Rattle.std.specs.Prelude.{◌≡◌, ◌≢◌, ℕ, ◌<◌, List, �
 ghost use Rattle.decimal_format.specs.Readable.{code, IsReadable};
 ghost use Rattle.number_format.specs.ScientificReading.{capped, with_digit, with_code, IsScan};
 
+use crate::read::cut::cut_code;
 use decimal_format::DecimalSymbols;
 
 /// The numbers that integer digits and fraction digits write: 40,000 instead of a greater one.
@@ -16,39 +17,6 @@ pub(super) struct Scan {
     pub(super) fraction: u32,
     pub(super) has_decimal: bool,
     pub(super) has_grouping: bool,
-}
-
-/// Returns what follows a code at the start of a text.
-pub(crate) fn cut<'t>(text: &'t [u8], code: &[u8]) -> Option<&'t [u8]>
-    ensures { MatchOption result ((rest : List ℕ) → text.now ≢ code.now ++ rest)
-        (λ r. text.now ≡ code.now ++ r.now) }
-{
-    if code.is_empty() {
-        return Some(text);
-    }
-    text.strip_prefix(code)
-}
-
-pub(super) fn cut_code<'t>(
-    symbols: &DecimalSymbols<'_>,
-    index: u8,
-    text: &'t [u8],
-) -> Option<&'t [u8]>
-    requires { index < 12 }
-    ensures { MatchOption result ((rest : List ℕ) → text.now ≢ code symbols.now index ++ rest)
-        (λ r. text.now ≡ code symbols.now index ++ r.now) }
-{
-    match index {
-        10 => cut(text, symbols.decimal_separator().as_bytes()),
-        11 => cut(text, symbols.grouping_separator().as_bytes()),
-        _ => {
-            let mut buffer = [0; 4];
-            cut(
-                text,
-                symbols.digit(index).encode_utf8(&mut buffer).as_bytes(),
-            )
-        }
-    }
 }
 
 fn next_code<'t>(symbols: &DecimalSymbols<'_>, text: &'t [u8]) -> Option<(u8, &'t [u8])>

@@ -12,19 +12,19 @@ pub returns-in_default-from_utf8-clause-none : goal.returns-in_default-from_utf8
 returns-in_default-from_utf8-clause-none c =
     inr (λ utf8. absurd (c.in_default-from_utf8.ensures.cases.0 (subst IsUtf8 (sym c.unpadded.ensures) utf8)))
 
-pub returns-in-Some-of-clause-some : goal.returns-in-Some-of-clause-some
-returns-in-Some-of-clause-some c =
+pub returns-in-Some-in_system-clause-some : goal.returns-in-Some-in_system-clause-some
+returns-in-Some-in_system-clause-some c =
     let is : c.in-Ok.tag.now ≡ unpadded c.args.self.now.tag = search rules in
-    let system = c.in-Some-system_at.system in
-    let texts = c.in-Some-of.texts in (
+    let system = c.in-Some-system_text.system.now in
+    let texts = c.in-Some-in_system.texts in (
       c.in-Some.ids,
       c.in-Some.options,
       c.in-Some.ensures.some.0,
       c.in-Some.ensures.some.1,
       c.in-Some-ranges_at.ensures.some,
       system,
-      c.in-Some-system_at.ensures.some,
-      subst (λ tag. AreRangeTexts tag (Some system) texts) is c.in-Some-of.ensures.some,
+      c.in-Some-system_text.ensures.some,
+      subst (λ tag. AreRangeTexts tag (Some system) texts) is c.in-Some-in_system.ensures.some,
     )
 
 pub returns-in-None-clause-none : goal.returns-in-None-clause-none

@@ -1,4 +1,4 @@
-use Rattle.std.proofs.{Common.{◌∙◌, w16, w32, FitsSigned, rules}, lemmas.Int.to_z-of_z}
+use Rattle.std.proofs.{Common.{sym, ◌∙◌, w16, w32, FitsSigned, rules}, lemmas.Int.to_z-of_z}
 use Rattle.decimal_format.specs.Symbols.{affixes}
 use Rattle.number_format.specs.CompactReading.{word_pattern}
 use Rattle.number_format.proofs.lemmas.read.PatternLists.{told_by}
@@ -18,5 +18,9 @@ returns c =
     let texts = c.texts-2.ensures in
     let second = (λ i. affixes (texts.prefix i) (texts.suffix i)) ∙ c.word_texts-others.ensures in
     let test = simp to_z-of_z at c.are_told_apart.ensures in
-    told_by f.style.symbols c.are_told_apart.result _ _ (word_pattern f style c.args.first)
-    (word_pattern f style c.args.second) first second (rw (own, other) at test)
+    let told = told_by f.style.symbols c.are_told_apart.result _ _ (word_pattern f style c.args.first)
+    (word_pattern f style c.args.second) first second (rw (own, other) at test) in (
+      λ t has next. told.0 t,
+      λ apart. told.1 (apart (sym c.has_number_in.ensures ∙ c.if-not-has_number_in.false)
+          (sym c.has_number_in-2.ensures ∙ c.if-not-has_number_in-2.false)),
+    )

@@ -1,5 +1,6 @@
-use Rattle.std.proofs.Common.{◌∙◌, sym, ap, arith}
-use Rattle.number_format.specs.{declared.read.compact.keys.CompactKey.CompactKey, CompactReading.inner_at}
+use Rattle.std.proofs.Common.{subst, arith}
+use Rattle.std.specs.Prelude.{◌↔◌, IsTrue}
+use Rattle.number_format.specs.CompactReading.{HasNumberOr}
 use Rattle.number_format.proofs.lemmas.read.CompactPatterns.{number_again, one_more, HasNumberAt}
 use Rattle.number_format.proofs.format.formatter.NumberFormatter.has_number_at.Goals as goal
 
@@ -17,8 +18,8 @@ returns-else-repeats_in_row c =
     let f = c.args.self.now in
     let style = c.args.style in
     let i = c.args.index in
-    let has = c.inner_at.ensures.has_number
-    ∙ ap (λ (k : CompactKey). (inner_at f style k).has_number) c.key_at.ensures in (
-      λ t. one_more (HasNumberAt f style) i c.requires.before (sym has ∙ t),
-      λ all. has ∙ all i (omega arith),
+    let test = subst (λ k. IsTrue c.has_number_or_meaning.result ↔ HasNumberOr f style k) c.key_at.ensures
+    c.has_number_or_meaning.ensures in (
+      λ t. one_more (HasNumberAt f style) i c.requires.before (test.0 t),
+      λ all. test.1 (all i (omega arith)),
     )

@@ -1,6 +1,6 @@
 use Rattle.std.proofs.Common.{true, false, refl, subst, arith}
 use Rattle.std.specs.Prelude.{◌↔◌, IsTrue}
-use Rattle.number_format.specs.{AffixedTexts.AreToldApart, CompactReading.{word_pattern}}
+use Rattle.number_format.specs.CompactReading.{AreKeysApart}
 use Rattle.number_format.proofs.lemmas.read.CompactPatterns.{all_of, fails_at, one_more, told_again, AllBelow, IsToldFrom}
 use Rattle.number_format.proofs.format.formatter.NumberFormatter.is_index_apart.Goals.{else-not-repeats-via-then-not-repeats+else-not-are_pair_told, else-not-repeats-via-else-not-repeats}
 use Rattle.number_format.proofs.format.formatter.NumberFormatter.is_index_apart.Goals as goal
@@ -10,8 +10,7 @@ returns-then-not-are_pair_told c =
     let f = c.args.self.now in
     let style = c.args.style in
     let key = c.key_at-key.result in
-    let test = subst (λ k. IsTrue c.are_pair_told.result
-    ↔ AreToldApart f.style.symbols (word_pattern f style key) (word_pattern f style k)) c.key_at.ensures
+    let test = subst (λ k. IsTrue c.are_pair_told.result ↔ AreKeysApart f style key k) c.key_at.ensures
     c.are_pair_told.ensures in
     let fails = fails_at (IsToldFrom f style key) c.loop-other.other 3888 c.are_pair_told.result (omega arith) test
     c.if-not-are_pair_told.true in
@@ -26,7 +25,7 @@ loop-other-preserved c =
     elim c.else-not-repeats.branch [
       | else-not-repeats-via-then-not-repeats+else-not-are_pair_told w ↦
           one_more (IsToldFrom f style key) i c.loop-other.invariant
-          (subst (λ k. AreToldApart f.style.symbols (word_pattern f style key) (word_pattern f style k))
+          (subst (AreKeysApart f style key)
           w.key_at.ensures (w.are_pair_told.ensures.0 w.if-not-are_pair_told.false))
       | else-not-repeats-via-else-not-repeats w ↦
           one_more (IsToldFrom f style key) i c.loop-other.invariant

@@ -1,5 +1,5 @@
 use Rattle.std.proofs.Common.{◌≡◌, List, sym, ◌∙◌, ap, subst}
-use Rattle.std.specs.{Prelude.{Some, option_map}}
+use Rattle.std.specs.{Prelude.{true, Some, option_map}}
 use Rattle.locale_data.specs.declared.compact.CompactStyle.{CompactStyle}
 use Rattle.number_format.specs.{declared.{format.formatter.NumberFormatter.NumberFormatter, read.pattern.NumberPattern.NumberPattern}, AffixedTexts.{AreNamed, AreToldApart}, CompactReading.{word_pattern, AreWordPatterns, AreWordsNamed}, NumberReading.{AreOwnWordsNamed, words_of}}
 use Rattle.number_format.proofs.format.formatter.NumberFormatter.words.Goals as goal
@@ -7,19 +7,20 @@ use Rattle.number_format.proofs.format.formatter.NumberFormatter.words.Goals as 
 -- ---- The patterns of words are told apart where each two texts are.
 
 module _ (f : NumberFormatter) (style : CompactStyle) (patterns : List NumberPattern)
-    (are : AreWordPatterns f style patterns) where
+    (are : AreWordPatterns f style true patterns) where
   named_of : AreWordsNamed f style → AreNamed f.style.symbols patterns
   named_of each = record {
     pair = λ p q has has'.
         let k = are.only p has in
         let l = are.only q has' in
-        subst (λ x. AreToldApart f.style.symbols x q) (sym k.1)
-        (subst (λ x. AreToldApart f.style.symbols (word_pattern f style k.0) x) (sym l.1) (each k.0 l.0));
+        subst (λ x. AreToldApart f.style.symbols x q) (sym k.is)
+        (subst (λ x. AreToldApart f.style.symbols (word_pattern f style k.key) x) (sym l.is)
+        (each k.key l.key k.has l.has));
   }
 
   each_of : AreNamed f.style.symbols patterns → AreWordsNamed f style
-  each_of named k l =
-      named.pair (word_pattern f style k) (word_pattern f style l) (are.all k) (are.all l)
+  each_of named k l has has' =
+      named.pair (word_pattern f style k) (word_pattern f style l) (are.all k has) (are.all l has')
 
 -- ---- The contract.
 

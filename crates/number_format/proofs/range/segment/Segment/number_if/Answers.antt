@@ -6,7 +6,7 @@ pub returns : goal.returns
 returns c =
     let n = c.args.number.now in
     let shown : c.args.shown ≡ true = search rules in
-    let is = c.wide_affixes-affixes.ensures in
+    let is = c.requires in
     c.between.ensures
     ∙ (λ i. is.prefix i ++ (number_pieces_if n (is.has_number i) ++ is.suffix i))
     ∙ sym (ap (inner_pieces_if n) shown)

@@ -1,6 +1,6 @@
 use Rattle.std.proofs.{Common.◌++◌, lemmas.Result.on_err_weaker}
 use Rattle.fixed_decimal.proofs.Calling.{on_err}
-use Rattle.number_format.specs.{FormattedNumbers.number_pieces_if, FormattedRanges.outer_pieces, TextParts.parts_pieces}
+use Rattle.number_format.specs.{FormattedNumbers.number_pieces_if, FormattedRanges.outer_text, TextParts.{parts_pieces, pieces_of}}
 use Rattle.number_format.proofs.lemmas.format.PieceTexts.{prefix_more, then_prefix}
 use Rattle.number_format.proofs.range.segment.Segment.put.Goals as goal
 
@@ -23,12 +23,12 @@ returns-in_err-put_parts-2-clause-err g c =
 pub returns-clause-err : goal.returns-clause-err
 returns-clause-err g c =
     let s = c.args.self.now in
-    let a = s.affixes in
-    let after = parts_pieces a.suffix ++ outer_pieces s.outer s.is_after in
+    let prefix = parts_pieces s.prefix.now in
+    let number = number_pieces_if s.number.now s.has_number in
+    let suffix = parts_pieces s.suffix.now in
+    let outer = pieces_of s.kind (outer_text s) in
     on_err_weaker c.put_outer.result
-    (λ p. then_prefix _ _ _ (parts_pieces a.prefix) (number_pieces_if s.number.now a.has_number ++ after)
-    c.in_ok-put_parts.ensures.ok
-    (then_prefix _ _ _ (number_pieces_if s.number.now a.has_number) after c.in_ok-put_number_if.ensures.ok
-    (then_prefix _ _ _ (parts_pieces a.suffix) (outer_pieces s.outer s.is_after)
-    c.in_ok-put_parts-2.ensures.ok p)))
-    (rw c.outer_texts.ensures at c.put_outer.ensures.err)
+    (λ p. then_prefix _ _ _ prefix (number ++ (suffix ++ outer)) c.in_ok-put_parts.ensures.ok
+    (then_prefix _ _ _ number (suffix ++ outer) c.in_ok-put_number_if.ensures.ok
+    (then_prefix _ _ _ suffix outer c.in_ok-put_parts-2.ensures.ok p)))
+    c.put_outer.ensures.err

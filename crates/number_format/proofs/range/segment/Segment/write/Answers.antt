@@ -23,11 +23,12 @@ returns-in_err-write_parts-2-clause-err g c =
 pub returns-clause-err : goal.returns-clause-err
 returns-clause-err g c =
     let s = c.args.self.now in
-    let a = s.affixes in
-    let after = parts_text a.suffix ++ outer_text s.outer s.is_after in
+    let prefix = parts_text s.prefix.now in
+    let number = number_text_if s.number.now s.has_number in
+    let suffix = parts_text s.suffix.now in
+    let outer = outer_text s in
     on_err_weaker c.write_parts-3.result
-    (λ p. then_prefix _ _ _ (parts_text a.prefix) (number_text_if s.number.now a.has_number ++ after)
-    c.in_ok-write_parts.ensures.ok
-    (then_prefix _ _ _ (number_text_if s.number.now a.has_number) after c.in_ok-write_number_if.ensures.ok
-    (then_prefix _ _ _ (parts_text a.suffix) (outer_text s.outer s.is_after) c.in_ok-write_parts-2.ensures.ok p)))
-    (rw c.outer_texts.ensures at c.write_parts-3.ensures.err)
+    (λ p. then_prefix _ _ _ prefix (number ++ (suffix ++ outer)) c.in_ok-write_parts.ensures.ok
+    (then_prefix _ _ _ number (suffix ++ outer) c.in_ok-write_number_if.ensures.ok
+    (then_prefix _ _ _ suffix outer c.in_ok-write_parts-2.ensures.ok p)))
+    (rw c.outer_texts.ensures.value at c.write_parts-3.ensures.err)

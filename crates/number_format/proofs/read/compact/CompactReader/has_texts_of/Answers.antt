@@ -1,9 +1,16 @@
-use Rattle.std.proofs.Common.{◌≡◌, refl, subst, arith, rules, w16, FitsSigned}
+use Rattle.std.proofs.Common.{◌≡◌, refl, sym, ◌∙◌, ap, subst, arith, rules, w16, FitsSigned}
 use Rattle.std.specs.Prelude.{◌↔◌, IsTrue}
 use Rattle.plural_rules.specs.declared.rules.PluralCategory.{PluralCategory}
-use Rattle.number_format.specs.{declared.read.compact.keys.CompactKey.CompactKey, CompactReading.word_pattern}
+use Rattle.locale_data.specs.declared.compact.CompactStyle.{CompactStyle}
+use Rattle.number_format.specs.{declared.{format.formatter.NumberFormatter.NumberFormatter, read.compact.keys.CompactKey.CompactKey}, CompactReading.{has_number_at, word_pattern}}
 use Rattle.number_format.proofs.lemmas.read.{CompactOwn.{narrow_key, none_of, LacksTexts}, CompactPatterns.{all_of, one_more}}
 use Rattle.number_format.proofs.read.compact.CompactReader.has_texts_of.Goals as goal
+
+pub returns-then-not-has_number_in : goal.returns-then-not-has_number_in
+returns-then-not-has_number_in c =
+    let none = c.has_number_in.ensures
+    ∙ ap (λ (x : NumberFormatter × CompactStyle). has_number_at x.0 x.1 c.args.key) c.self.view_is in
+    (λ t. absurd (cc), λ has. absurd (let e = sym c.if-not-has_number_in.true ∙ none ∙ has.0 in cc))
 
 pub returns-then-has_texts : goal.returns-then-has_texts
 returns-then-has_texts c =
@@ -14,7 +21,10 @@ returns-then-has_texts c =
     let test = narrow_key
     (λ (x : CompactKey). IsTrue c.has_texts.result ↔ (p.affixes ≡ (word_pattern w.0 w.1 x).affixes)) k fits
     c.has_texts.ensures in
-    (λ t. (c.category_at.result, test.0 c.if-has_texts.true), λ has. refl)
+    let has = sym (c.has_number_in.ensures
+    ∙ ap (λ (x : NumberFormatter × CompactStyle). has_number_at x.0 x.1 c.args.key) c.self.view_is)
+    ∙ c.if-not-has_number_in.false in
+    (λ t. (has, (c.category_at.result, test.0 c.if-has_texts.true)), λ has. refl)
 
 pub loop-index-preserved : goal.loop-index-preserved
 loop-index-preserved c =

@@ -12,7 +12,7 @@ returns-then-not-are_same_powers g c =
     let v = c.args.value.now in
     let m = c.magnitude_by-magnitude in
     let is = subst (λ (x : NumberFormatter × CompactStyle). IsWordReader x.0 x.1 c.self.inside.reader) c.self.view_is
-    c.self.invariant in
+    c.self.invariant.0 in
     let magnitude_fits : FitsSigned w16 m.result = search rules in
     let exponent_fits : FitsSigned w32 c.exponent_at-exponent.result = search rules in
     let at = simp to_z-of_z at c.exponent_at-exponent.ensures.value in
@@ -33,7 +33,7 @@ returns-then-has_texts_of g c =
     let v = c.args.value.now in
     let m = c.magnitude_by-magnitude in
     let is = subst (λ (x : NumberFormatter × CompactStyle). IsWordReader x.0 x.1 c.self.inside.reader) c.self.view_is
-    c.self.invariant in
+    c.self.invariant.0 in
     let magnitude_fits : FitsSigned w16 m.result = search rules in
     let exponent_fits : FitsSigned w32 c.exponent_at-exponent.result = search rules in
     let at = simp to_z-of_z at c.exponent_at-exponent.ensures.value in
@@ -59,7 +59,7 @@ returns-then-is_unit g c =
     let v = c.args.value.now in
     let m = c.magnitude_by-magnitude in
     let is = subst (λ (x : NumberFormatter × CompactStyle). IsWordReader x.0 x.1 c.self.inside.reader) c.self.view_is
-    c.self.invariant in
+    c.self.invariant.0 in
     let magnitude_fits : FitsSigned w16 m.result = search rules in
     let exponent_fits : FitsSigned w32 c.exponent_at-exponent.result = search rules in
     let at = simp to_z-of_z at c.exponent_at-exponent.ensures.value in
@@ -89,7 +89,7 @@ returns-else-is_unit g c =
     let v = c.args.value.now in
     let m = c.magnitude_by-magnitude in
     let is = subst (λ (x : NumberFormatter × CompactStyle). IsWordReader x.0 x.1 c.self.inside.reader) c.self.view_is
-    c.self.invariant in
+    c.self.invariant.0 in
     let magnitude_fits : FitsSigned w16 m.result = search rules in
     let exponent_fits : FitsSigned w32 c.exponent_at-exponent.result = search rules in
     let at = simp to_z-of_z at c.exponent_at-exponent.ensures.value in

@@ -7,7 +7,7 @@ use Rattle.number_format.proofs.read.compact.CompactReader.read_typed.Goals as g
 
 pub returns-in-Err-Syntax : goal.returns-in-Err-Syntax
 returns-in-Err-Syntax g c =
-    let shift = ap (λ (r : Reader). r.shift) c.self.invariant.reader
+    let shift = ap (λ (r : Reader). r.shift) c.self.invariant.0.reader
     ∙ ap (λ (w : NumberFormatter × CompactStyle). pos 0 -ℤ w.0.options.scale) c.self.view_is in (
       Err Syntax,
       rw c.in-Err-Syntax.field-0-is at c.in-Err-Syntax.ensures,
