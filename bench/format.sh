@@ -3,10 +3,10 @@
 #
 # A row has a locale, a number, the nanoseconds of processor time here and in ICU, and the first over the second, for
 # `format` and for `read`; and for `locale`, the look-up of a tag, the time here. `format` here: a text is parsed as a
-# decimal, formatted and written into a sink in memory; the row without a locale writes the decimal's own text. In ICU it
-# is LocalizedNumberFormatter::formatDecimal of the text, and its text in UTF-8. `read` is DecimalSymbols::read of the
-# formatted text, in ICU unum_parseDecimal of it in UTF-16. The symbols and the formatter are made before. Each figure is
-# the least of nine batches of 20,000 calls; format/main.rt.txt and format/icu.cpp are what is timed.
+# decimal, formatted and written into a sink in memory; the row without a locale writes the decimal's own text. In ICU
+# it is LocalizedNumberFormatter::formatDecimal of the text, and its text in UTF-8. `read` is DecimalSymbols::read of
+# the formatted text, in ICU unum_parseDecimal of it in UTF-16. The symbols and the formatter are made before. Each
+# figure is the least of nine batches of 20,000 calls; format/main.rt.txt and format/icu.cpp are what is timed.
 #
 # WORK, a folder outside the project, takes what is built. Needs bash, the toolchain, python3, and
 #

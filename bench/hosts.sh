@@ -1,7 +1,7 @@
 #!/usr/bin/env bash
 # Prints the tables of hosts: fd_format of the C library beside NumberFormatter::write in Rattle and beside ICU,
-# fd_format_range beside ICU, the Rust crate beside the C library, SQLite beside its own printf, the Python module beside
-# decimal, Babel and the program, and a column on the workers of Dask beside one program and beside a Dask map of
+# fd_format_range beside ICU, the Rust crate beside the C library, SQLite beside its own printf, the Python module
+# beside decimal, Babel and the program, and a column on the workers of Dask beside one program and beside a Dask map of
 # decimal.Decimal:
 #
 #   bench/hosts.sh [LINES]        by default 5000000
@@ -14,7 +14,8 @@ cd "$project"
 lines=${1:-5000000}
 room=$(mktemp -d)
 others=()
-trap 'kill "${others[@]}" 2> /dev/null || true; wait; rm -rf "$room"' EXIT
+# A worker whose scheduler has ended does not always end at SIGTERM.
+trap 'disown -a; kill -KILL "${others[@]}" 2> /dev/null || true; sleep 0.2; rm -rf "$room"' EXIT
 program=$PWD/crates/fixdec_lines/out/fixdec_lines
 python3 tools/built.py programs fixdec_lines
 bash c/build.sh

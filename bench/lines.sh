@@ -27,6 +27,9 @@ set -euo pipefail
 lines=${1:-5000000} passes=${2:-5}
 unset CDPATH
 cd -- "$(dirname -- "$0")/.."
+for tool in /usr/bin/time cc numfmt mawk valgrind; do
+  command -v $tool > /dev/null || { echo "missing: $tool" >&2; exit 1; }
+done
 python3 tools/built.py programs fixdec_lines
 room=$(mktemp -d)
 trap 'rm -rf "$room"' EXIT

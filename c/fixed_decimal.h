@@ -64,10 +64,12 @@ typedef enum fd_status {
     FD_SKELETON_SYNTAX = 16, /* the text is no skeleton, or not UTF-8, from byte `at` on; or it is outside the texts */
     FD_SKELETON_UNSUPPORTED = 17,    /* the library has no such option as the stem at byte `at` of the skeleton */
     FD_UNKNOWN_NUMBERING_SYSTEM = 18, /* no numbering system is known by the name in the options */
-    FD_UNREADABLE_FORMAT = 19, /* the numbers of the options are not read: two have the same text, or a text of the unit
-                                  or a word of compact notation has no number. With an exponent or in compact notation
-                                  also: numbers are rounded to an increment, or integer digits are cut off. With an
-                                  exponent also: its minus sign is not written, or a unit or a name of a currency is */
+    FD_UNREADABLE_FORMAT = 19, /* the numbers of the options are not read: two have the same text, a text of the unit
+                                  has no number, no integer digit has to be written, or a decimal separator is always
+                                  written. With an exponent or in compact notation also: numbers are rounded to an
+                                  increment, or integer digits are cut off. With an exponent also: its minus sign is
+                                  not written, or a unit or a name of a currency is. In compact notation also: a word
+                                  without a number is not that of 1 alone, as "mille" is */
     FD_DIGIT_OPTIONS = 20,     /* the numbers of digits are those of no format, by the fd_digit_reason at */
     FD_NO_SKELETON = 21,       /* no skeleton has these options */
     FD_FORMATTER = 22,         /* the bytes are no fd_formatter */
@@ -249,7 +251,8 @@ typedef struct fd_number_options {
     uint16_t maximum_fraction_digits;    /* 0 to 100 */
     uint16_t minimum_significant_digits; /* 1 to 21 */
     uint16_t maximum_significant_digits; /* 1 to 21 */
-    uint16_t rounding_increment; /* 1, 2 or 5 with up to three zeros, 25 with up to two; by default 1, or that of cash */
+    /* 1, 2 or 5 with up to three zeros, 25 with up to two; by default 1, or that of cash */
+    uint16_t rounding_increment;
 } fd_number_options;
 
 /* A plain number, with at most three fraction digits, half-expand. */
@@ -353,9 +356,9 @@ typedef struct fd_format_rows {
 } fd_format_rows;
 
 /* A formatter of numbers: plain data of 152 bytes without a pointer, to be copied and shared between threads. Make it
- * by fd_formatter_by_options or fd_formatter_by_skeleton. Any bytes are allowed in it: those that name no row, no option
- * or no unit, or are not 0 where they are reserved, are FD_FORMATTER. The functions of ranges also return it for a tag
- * of no known locale. All zeros are no formatter. */
+ * by fd_formatter_by_options or fd_formatter_by_skeleton. Any bytes are allowed in it: those that name no row, no
+ * option or no unit, or are not 0 where they are reserved, are FD_FORMATTER. The functions of ranges also return it for
+ * a tag of no known locale. All zeros are no formatter. */
 typedef struct fd_formatter {
     fd_format_rows rows;
     fd_format_options options;
@@ -525,8 +528,8 @@ fd_parted fd_format_parts(const fd_formatter *formatter, const uint8_t *text, si
                           size_t capacity, fd_part *parts, size_t part_capacity);
 
 /* Formats the range of two decimals by a formatter, as formatRange of Intl.NumberFormat does: "1,00–2,00 €", or
- * "≈1,00 €" if both are equal with the same sign, or shown alike. The first may be above the second. The buffer is as
- * after fd_run.
+ * "≈1,00 €" if both are equal, or have one sign and are rounded to the same digits, and have the same text around them.
+ * The first may be above the second. The buffer is as after fd_run.
  * Errors, the first that holds: FD_FORMATTER; FD_SYNTAX, FD_LIMIT, FD_MEMORY of the first text, and then of the second
  * one, with at 1; FD_OVERFLOW of the first number, and then of the second one, or FD_MEMORY; FD_BUFFER_TOO_SMALL. */
 fd_result fd_format_range(const fd_formatter *formatter, const uint8_t *start, size_t start_count, const uint8_t *end,
@@ -567,8 +570,8 @@ fd_column fd_lines(const uint8_t *lines, size_t count, uint32_t skip, const fd_f
 
 /* Writes the line of an error, as the programs print it: "call 1: overflow" of FD_OVERFLOW at 1. `calls` is the number
  * of calls that were passed, and 0 for a function without calls: FD_OVERFLOW at this number or above is
- * "format: overflow". FD_SYNTAX is "start: syntax" at 0, and else "end: syntax", of the second text of a range; FD_LIMIT
- * likewise. The text of FD_OK is empty. The buffer is as after fd_run; 80 bytes are enough.
+ * "format: overflow". FD_SYNTAX is "start: syntax" at 0, and else "end: syntax", of the second text of a range;
+ * FD_LIMIT likewise. The text of FD_OK is empty. The buffer is as after fd_run; 80 bytes are enough.
  * Errors: FD_UNKNOWN_OPTION if no fd_status has the number; FD_BUFFER_TOO_SMALL. */
 fd_result fd_status_text(uint32_t status, size_t at, size_t calls, uint8_t *buffer, size_t capacity);
 
@@ -606,8 +609,8 @@ fd_unsigned fd_locale(const uint8_t *tag, size_t count);
  * Errors: FD_UNKNOWN_LOCALE, FD_UNKNOWN_OPTION. */
 fd_unsigned fd_plural_rules(const uint8_t *tag, size_t count, uint32_t type);
 
-/* The number of the plural rules of the locale that a word names: a tag, or a tag and ":cardinal" or ":ordinal". Of each
- * other word it is 0: the word is a text of rules, or none. Errors: FD_UNKNOWN_LOCALE. */
+/* The number of the plural rules of the locale that a word names: a tag, or a tag and ":cardinal" or ":ordinal". Of
+ * each other word it is 0: the word is a text of rules, or none. Errors: FD_UNKNOWN_LOCALE. */
 fd_unsigned fd_rules(const uint8_t *word, size_t count);
 
 /* As fd_category, by the rules with a number that fd_plural_rules or fd_rules returned.

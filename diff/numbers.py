@@ -21,13 +21,59 @@ import sys
 from fixed_decimal import Decimal, NumberFormat
 
 NODE = """
+const NUMERAL = ['integer', 'group', 'decimal', 'fraction', 'exponentSeparator', 'exponentInteger', 'exponentMinusSign',
+  'minusSign', 'plusSign', 'approximatelySign'];
+const SAMPLES = ['0', '1', '2', '3', '5', '6', '7', '8', '11', '20', '21', '22', '100', '0.1', '0.5', '1.1', '1.5'];
+const partsOf = (format, number) =>
+  typeof number === 'string' ? format.formatToParts(number) : format.formatRangeToParts(...number);
+const isName = ({ type }) => type === 'unit' || type === 'currency';
+// The text of parts with other names of a unit or a currency.
+const renamed = (parts, names) => parts.map(it => isName(it) ? names.shift() : it.value).join('');
+// The numerals of a text, the texts around each, and the kinds of these.
+const split = (format, number) => {
+  const numerals = [], around = [''], kinds = [];
+  let isInside = false;
+  for (const { type, value } of partsOf(format, number)) {
+    const isNumeral = NUMERAL.includes(type);
+    if (isNumeral && !isInside) numerals.push(''), around.push('');
+    (isNumeral ? numerals : around).push((isNumeral ? numerals : around).pop() + value);
+    if (!isNumeral || !isInside) kinds.push(isNumeral ? 'numeral' : type);
+    isInside = isNumeral;
+  }
+  return { numerals, around, kinds: kinds.join() };
+};
+// The numerals of a number, or a range, with the words before and after those of other numbers: the plural forms.
+const forms = (format, number) => {
+  const end = typeof number === 'string' ? number : number[1];
+  const [, sign, whole] = /^(-?)([0-9]*)/.exec(end);
+  const { numerals, around, kinds } = split(format, number);
+  const parts = partsOf(format, number);
+  const texts = new Set();
+  for (const sample of SAMPLES.flatMap(it => it.includes('.') ? [it]
+      : [0, 3, 2, 1].map(cut => it + '0'.repeat(cut && Math.max(whole.length - cut, 0))))) {
+    const other = split(format, typeof number === 'string' ? sign + sample : [number[0], sign + sample]);
+    if (other.kinds === kinds) {
+      const words = [other.around[0], ...around.slice(1, -1), other.around.at(-1)];
+      texts.add(words.map((word, index) => word + (numerals[index] ?? '')).join(''));
+    }
+    const names = partsOf(format, sign + sample).filter(isName).map(({ value }) => value);
+    if (names.length === parts.filter(isName).length) texts.add(renamed(parts, names));
+  }
+  return [...texts];
+};
+// The text of a number or a range, and its forms if a number has more digits than a double has.
 const formatted = ([locale, number, options]) => {
   try {
-    const format = new Intl.NumberFormat(locale, options);
+    // For ranges node takes `latn` from the tag alone.
+    const isLatin = typeof number !== 'string' && options.numberingSystem === 'latn';
+    const tag = isLatin ? new Intl.Locale(locale, { numberingSystem: 'latn' }).toString() : locale;
+    const format = new Intl.NumberFormat(tag, options);
     // The first two texts of a formatter may be wrong, by an error of ICU.
     for (let index = 0; index < 3; index++) format.format(1);
-    return typeof number === 'string' ? format.format(number) : format.formatRange(...number);
-  } catch (error) { return null; }
+    const isLong = [number].flat().some(it => it.replace(/[^0-9]/g, '').length > 15);
+    return [typeof number === 'string' ? format.format(number) : format.formatRange(...number),
+      isLong ? forms(format, number) : []];
+  } catch (error) { return [null, []]; }
 };
 const isKnown = locale => {
   try { return Intl.NumberFormat.supportedLocalesOf([locale]).length; } catch (error) { return false; }
@@ -153,23 +199,31 @@ def is_azerbaijani(tag):
     return re.fullmatch("az(-latn)?(-az)?", tag) is not None
 
 
-def known(locale, number, options, text):
-    """The name of a difference that is node's, whose text is given."""
+def exact(number):
+    """Whether a number is negative, and its digits without zeros at the ends."""
+    # `fractions` and `decimal` import the module `numbers`, which here would be this file.
+    whole, _, fraction = number.lstrip("-").partition(".")
+    digits = whole.lstrip("0"), fraction.rstrip("0")
+    return number[0] == "-" and any(digits), *digits
+
+
+def known(locale, number, options, own, text, forms):
+    """The name of a difference that is node's, whose text and forms are given with our own text."""
     compact, increment = options.get("notation") == "compact", options.get("roundingIncrement", 1)
     numbers = [number] if isinstance(number, str) else number
     digits = max(len(re.sub("[^0-9]", "", it)) for it in numbers)
     if text and re.search("[\ud800-\udfff]", text):
         return "half of a digit in an exponent"
-    if len(numbers) > 1 and options.get("numberingSystem") == "latn":
-        return "a range by latn, which node writes in the locale's own digits"
     if increment > 1 and digits > 28:
         return "an increment and more than 34 digits"
     if compact and increment > 10:
         return "compact, by the pattern of the rounded number"
-    if compact and digits > 15:
-        return "compact, more digits than a double has"
-    if digits > 15 and (is_outer(options) or len(numbers) > 1):
-        return "units, names and ranges, more digits than a double has"
+    # ICU has the operands of plural rules as doubles. It writes all digits, so only the words around them differ.
+    if own in forms:
+        return "the plural form of more digits than a double has"
+    # ICU compares the numbers of a range as doubles.
+    if len({float(it) for it in numbers}) < len({exact(it) for it in numbers}):
+        return "a range of two numbers that are the same double"
     tag = locale.partition("-x-")[0].lower()
     if is_azerbaijani(tag) and options.get("numberingSystem") in ("arab", "arabext") or tag == "yrl":
         return "letters or signs in a pattern"
@@ -192,10 +246,11 @@ def main(path, cases=20_000, seed=1):
     rows = [(random_locale(rng, locales), random_range(rng) if rng.random() < 0.2 else random_number(rng),
              random_options(rng)) for _ in range(int(cases))]
     counts = collections.Counter()
-    for row, text in zip(rows, node([], [], rows)):
+    for row, (text, forms) in zip(rows, node([], [], rows)):
         locale, number, options = row
         own = by_module(*row)
-        name = "no text in either" if own is text is None else "equal" if own == text else own and known(*row, text)
+        name = "no text in either" if own is text is None else "equal" if own == text else ""
+        name = name or own and known(*row, own, text, forms)
         if own and not is_read_back(own, locale, number, options):
             name = None
         counts[name] += 1

@@ -3,17 +3,24 @@
 #
 #   diff/plants.sh ORIGINAL [SECONDS [THREADS]]       after diff/run.sh with the same WORK
 #
-# Status 0: every one was. ONLY=WORD plants only those whose name contains the word.
+# Status 0: every one was, and without a wrong rule there is no difference. ONLY=WORD plants only those whose name
+# contains the word.
 set -euo pipefail
 . "$(dirname -- "$0")/common.sh"
 export RUSTFLAGS="$RUSTFLAGS -A warnings"
 seconds=${1:-8} threads=${2:-$(nproc)}
 export LIBRARY=$work/decimal_calls LD_LIBRARY_PATH=$project/c/out FIXED_DECIMAL_LIB=$project/c/out/libfixed_decimal.so
-unnoticed=0
+planted=0 unnoticed=0
+
+# Without a wrong rule there is no difference: else each one would be noticed.
+build_driver diff
+"$work/target/release/diff" "$work/fixdec/fixdec" "$seconds" "$threads" 1 >"$work/unplanted.txt" ||
+    die "there are differences, and nothing is planted: $(tail -n 1 "$work/unplanted.txt")"
 
 # plant NAME OLD NEW [FILE]: in that file of rust/src, where OLD occurs once.
 plant() {
     case $1 in *"${ONLY:-}"*) ;; *) return 0 ;; esac
+    planted=$((planted + 1))
     build_driver diff "$2" "$3" "${4:-reference.rs}"
     local found status=0
     found=$("$work/target/release/diff" "$work/fixdec/fixdec" "$seconds" "$threads" 1) || status=$?
@@ -68,4 +75,4 @@ plant 'a sink that fails has taken a byte less' '(Answer::Sink, &text[..room])' 
     '(Answer::Sink, &text[..room.saturating_sub(1)])' compare.rs
 plant 'the 0 of the original after a shift is 00' '_ => (0, 0),' '_ => (1, 0),'
 plant 'the program tells a refusal by status 2' '(1, format!(' '(2, format!(' program.rs
-[ $unnoticed = 0 ]
+[ $planted != 0 ] && [ $unnoticed = 0 ]

@@ -1,5 +1,6 @@
 //! Links the library that `FIXED_DECIMAL_LIB` names, a static or a shared one, or else the static one that `c/build.sh`
-//! has made, or that is beside the sources in a release. Nothing is proved here: if there is no library, the build stops.
+//! has made, or that is beside the sources in a release. Nothing is proved here: if there is no library, the build
+//! stops.
 use std::path::{Path, PathBuf};
 use std::process::exit;
 

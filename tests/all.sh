@@ -1,9 +1,9 @@
 #!/usr/bin/env bash
 # All tests: the gate, and then side by side the built programs as a shell runs them, failing allocations, interrupted
 # writes, the C library, rows of numbers in locales, Rust and Dask, setting up, the guide, installs, releases, manual
-# pages, the documents, and the modules. A script that has not ended after half an hour fails, and so does one that is
-# killed; an interrupt ends all of them. The last lines are `not run: ..` for each thing that is missing here, and
-# `N passed, M failed`; the status is 0 if M is 0.
+# pages, what counts as the rejection of a wrong body, the documents, and the modules. A script that has not ended after
+# half an hour fails, and so does one that is killed; an interrupt ends all of them. The last lines are `not run: ..`
+# for each thing that is missing here, and `N passed, M failed`; the status is 0 if M is 0.
 set -u
 unset CDPATH
 cd -- "$(dirname -- "$0")/.." || exit 1
@@ -27,8 +27,8 @@ trap 'exit 130' HUP INT TERM
 # The shell that leads a session: it runs a command, and then ends what is left of it, also if the command was killed.
 leader='"$@"; status=$?; trap "" TERM; pkill -s $$; exit $status'
 
-# count NAME STATUS LOG: adds up the last line of tests, `N passed, M failed`. Without it, or if the status is another or
-# nothing has passed or failed, one more has failed.
+# count NAME STATUS LOG: adds up the last line of tests, `N passed, M failed`. Without it, or if the status is another
+# or nothing has passed or failed, one more has failed.
 count() {
   local more=0
   if [[ $(tail -n 1 "$3") =~ ^([0-9]+)\ passed,\ ([0-9]+)\ failed$ ]]; then
@@ -57,7 +57,7 @@ count 'the gate' $status "$room/log"
 # The scripts take what `rt ci` has just built, and nothing else. Those that take longest begin.
 export BUILT_BY_GATE=1
 scripts=(tests/{c,postgresql,end_to_end,installs,setting_up,guide,releases,dask,hosts,manuals,allocation_failures}.sh
-  tests/{interrupted_writes.sh,rows.py}
+  tests/{interrupted_writes.sh,rows.py,rejections.py}
   tools/check_{documents,modules}.py)
 started=()
 for script in "${scripts[@]}"; do

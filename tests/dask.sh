@@ -61,8 +61,8 @@ run() {
   PYTHONPATH=$modules timeout 300 "$python" "$convert" "$@"
 }
 
-# parts NAME STATUS COUNT WORD..: with `--out parts` nothing is written but parts, which are together the file `expected`,
-# and the file `lines` on standard error. COUNT is the number of parts, or `some`.
+# parts NAME STATUS COUNT WORD..: with `--out parts` nothing is written but parts, which are together the file
+# `expected`, and the file `lines` on standard error. COUNT is the number of parts, or `some`.
 parts() {
   rm -rf parts
   run --out parts "${@:4}" > found 2> log
@@ -168,7 +168,8 @@ rows() {
   [ $? = 3 ] && [ "$(cat log)" = 'output: No space left on device' ]
   judge $? "$dask, help to a full output: $(tail -n 1 log)"
   rm -f started
-  PYTHONPATH=$modules env --default-signal=INT "$python" "$convert" --program ./waits numbers -- $half_even > found 2> log &
+  PYTHONPATH=$modules env --default-signal=INT "$python" "$convert" --program ./waits numbers -- $half_even \
+    > found 2> log &
   for _ in $(seq 300); do [ -e started ] && break; sleep 0.1; done
   kill -INT $!
   wait $!
@@ -201,7 +202,8 @@ in_parts() {
 
   mkdir -p full && touch full/file
   for folder in full numbers ''; do
-    fails 2 "convert.py: argument --out: not an empty folder: $folder" --out "$folder" --program ./fixdec_lines numbers -- trim
+    fails 2 "convert.py: argument --out: not an empty folder: $folder" \
+      --out "$folder" --program ./fixdec_lines numbers -- trim
   done
   fails 3 "$room/numbers/parts: Not a directory" --out numbers/parts --program ./fixdec_lines numbers -- trim
   mkdir -p empty_folder
@@ -210,7 +212,8 @@ in_parts() {
   judge $? "$dask, a folder that is there, and a closed output: $(tail -n 1 log)"
   rm -rf parts empty_folder
   run --out parts --program ./removes_parts numbers -- trim > found 2> log
-  [ $? = 3 ] && [ "$(head -n 1 log)" = "$room/numbers: the block from line 1 on: $room/parts/part-00000: No such file or directory" ]
+  [ $? = 3 ] && [ "$(head -n 1 log)" = \
+    "$room/numbers: the block from line 1 on: $room/parts/part-00000: No such file or directory" ]
   judge $? "$dask, a folder that is removed: $(head -n 1 log)"
   # What a worker leaves that ends while it writes.
   "$program" trim < numbers > expected
@@ -221,8 +224,9 @@ in_parts() {
 python=python3 dask="a stand-in for Dask"
 rows
 # Each block runs twice.
-cp -r "$modules" twice && sed -i 's/return self.threads.submit(function, \*arguments)/self.threads.submit(function, *arguments); &/' \
-  twice/dask/distributed.py
+cp -r "$modules" twice &&
+  sed -i 's/return self.threads.submit(function, \*arguments)/self.threads.submit(function, *arguments); &/' \
+    twice/dask/distributed.py
 ./fixdec_lines shift:1 < numbers > expected
 modules=$room/twice parts 'each block twice' 0 some --program ./fixdec_lines --block 3000 numbers -- shift:1
 # More digits.
@@ -233,7 +237,8 @@ judge $? "the names of parts: $found"
 # A client that is never closed.
 cp -r "$modules" never && sed -i 's/self.threads.shutdown.*/__import__("time").sleep(1000)/' never/dask/distributed.py
 ./fixdec_lines shift:1 < numbers > expected
-modules=$room/never run --program ./fixdec_lines numbers -- shift:1 > found 2> log && cmp -s found expected && [ ! -s log ]
+modules=$room/never run --program ./fixdec_lines numbers -- shift:1 > found 2> log &&
+  cmp -s found expected && [ ! -s log ]
 judge $? "$dask, which does not close: $(tail -n 1 log)"
 
 # ---- Dask
@@ -253,7 +258,8 @@ if [ -n "$python" ]; then
     run --program ./fixdec_lines numbers -- shift:1 > found.$number 2> log.$number &
     others[number]=$!
   done
-  wait "${others[1]}" && wait "${others[2]}" && cmp -s found.1 expected && cmp -s found.2 expected && [ ! -s log.1 ] && [ ! -s log.2 ]
+  wait "${others[1]}" && wait "${others[2]}" &&
+    cmp -s found.1 expected && cmp -s found.2 expected && [ ! -s log.1 ] && [ ! -s log.2 ]
   judge $? "Dask, two runs at once: $(tail -n 1 log.1 log.2)"
 
   # Four workers on loopback, of which one ends midway.
@@ -297,8 +303,10 @@ for python in python3 /usr/bin/python3 ''; do
 done
 if [ -z "$python" ]; then
   missing 'python3-dask and python3-pandas'
-elif "$python" -m pip --version > /dev/null 2>&1 && [ -e "$("$python" -c 'import sysconfig; print(sysconfig.get_path("include"))')/Python.h" ]; then
-  (cd "$top" && bash c/build.sh && "$python" -m pip install --no-index --quiet --target "$room/module" ./python) > log 2>&1
+elif "$python" -m pip --version > /dev/null 2>&1 &&
+  [ -e "$("$python" -c 'import sysconfig; print(sysconfig.get_path("include"))')/Python.h" ]; then
+  (cd "$top" && bash c/build.sh && "$python" -m pip install --no-index --quiet --target "$room/module" ./python) \
+    > log 2>&1
   judge $? "the Python module: $(tail -n 3 log)"
   printf 'name,price\ntea,1234.5\nmilk,7\n' > prices-1.csv
   printf 'name,price\nbread,-2.345\n' > prices-2.csv

@@ -115,7 +115,7 @@ row fixdec 2 '' "$usage" 5 $'concat:\xc3\x28'
 row fixdec 2 '' $'unknown locale: tlh\n' 5 read:tlh foo
 row fixdec 2 '' $'skeleton: syntax at 0\n' 5 format:de:fast
 row fixdec 2 '' $'skeleton: unsupported scale\n' 5 'format:tlh:.00 scale/2'
-row fixdec 2 '' $'skeleton: no reader\n' 5 read:it:KK foo
+row fixdec 2 '' $'skeleton: no reader\n' 5 read:vec:K foo
 
 # Status 3: standard output fails. If standard error cannot be written, the status is the same.
 shell 3 '' $'output\n' 'fixdec 250 > /dev/full'
@@ -186,7 +186,7 @@ wrong 'a quote is no delimiter of csv' csv field:1 'delimiter:"'
 lines 2 '1\n' '' $'unknown locale: tlh\n' read:tlh trimm
 lines 2 '1\n' '' $'skeleton: syntax at 0\n' read:de format:de:fast
 lines 2 '1\n' '' $'skeleton: unsupported usage\n' 'format:de:percent usage/road'
-lines 2 '1\n' '' $'skeleton: no reader\n' read:it:KK format:tlh
+lines 2 '1\n' '' $'skeleton: no reader\n' read:vec:K format:tlh
 
 # Many fields, by number and by name, and a long name.
 mapfile -t words < <(for n in $(seq 200 -1 1); do printf 'field:%d\nshift:%d\n' "$n" $((n % 3)); done)
@@ -269,7 +269,8 @@ little_memory 'line 2: memory' "$(seq 2000 4000 130000)" 1 $'7\n' $'line 2: star
 help fixdec_lines 'usage: fixdec_lines [OPTION].. [read:LOCALE] [CALL].. [format:LOCALE]'
 lines 0 '1\n' "fixdec_lines $version"$'\n' '' --version
 wrong 'no such word: --version (--help lists all)' --version skip
-sed -n '/static LOCALES:/,/^];/s/.*tag: \*b"\([a-z0-9-]*\) *".*/\1/p' crates/locale_data/src/tables/symbols.rt > "$room/tags"
+sed -n '/static LOCALES:/,/^];/s/.*tag: \*b"\([a-z0-9-]*\) *".*/\1/p' \
+  crates/locale_data/src/tables/symbols.rt > "$room/tags"
 "$room/fixdec_lines" --locales < /dev/null | cmp -s - "$room/tags" && [ "$(wc -l < "$room/tags")" -gt 300 ]
 judge $? 'fixdec_lines --locales'
 

@@ -2,8 +2,8 @@
 # Does the tasks of docs/GUIDE.md as a reader does, each in an empty folder: writes the files of its blocks, runs the
 # commands after each `$`, and compares what they print. Then it makes the two changes of CONTRIBUTING.md that the
 # prover rejects, in a copy. tools/built.py proves and builds the programs and the C library first, but where the gate
-# just did; `rt try` compiles the programs in Rattle, and proves nothing. Needs gcc, git and python3; what else is missing
-# is a line `not run: ..`, and a failure under ALL=1: pkg-config, Python's headers and pip. The last line is
+# just did; `rt try` compiles the programs in Rattle, and proves nothing. Needs gcc, git and python3; what else is
+# missing is a line `not run: ..`, and a failure under ALL=1: pkg-config, Python's headers and pip. The last line is
 # `N passed, M failed`; the status is 0 if M is 0.
 set -u
 unset CDPATH

@@ -35,7 +35,8 @@ if command -v cargo > /dev/null; then
     { tail -n 30 "$room/log"; false; }
   judge $? 'cargo test over a static library of another name'
   # README's example, in a new package with one line in its Cargo.toml.
-  (cd "$room" && cargo new --quiet --offline example) && echo "fixed_decimal_proved = { path = \"$PWD/rust\" }" >> "$room/example/Cargo.toml" &&
+  (cd "$room" && cargo new --quiet --offline example) &&
+    echo "fixed_decimal_proved = { path = \"$PWD/rust\" }" >> "$room/example/Cargo.toml" &&
     awk '/^For Rust/ { here = 1 } here && /^```rust$/ { shown = 1; next } shown && /^```$/ { exit } shown' README.md \
       > "$room/example/src/main.rs" &&
     found=$(cd "$room/example" && cargo run --quiet --offline 2> "$room/log") && [ "$found" = 1.234,56 ]
@@ -47,7 +48,8 @@ if command -v cargo > /dev/null; then
     awk '/^## / { here = $2 == "Functions" } here && /^```rust$/ { shown = 1; print "{"; next }
       shown && /^```$/ { shown = 0; print "}"; next } shown' docs/RUST.md
     echo 'Ok(()) }'; } > "$room/example/src/main.rs"
-  grep -q NumberFormat "$room/example/src/main.rs" && (cd "$room/example" && cargo run --quiet --offline) > "$room/log" 2>&1 ||
+  grep -q NumberFormat "$room/example/src/main.rs" &&
+    (cd "$room/example" && cargo run --quiet --offline) > "$room/log" 2>&1 ||
     { tail -n 30 "$room/log"; false; }
   judge $? 'the examples of docs/RUST.md'
 else

@@ -69,7 +69,7 @@ def main(name):
     print(f"numbers for which ICU has an error: {exact}")
     print("unsupported:", ", ".join(f"{stem:.40} {count}" for stem, count in unsupported.most_common()) or "none")
     print(f"{passed} passed, {failed} failed")
-    return failed > 0
+    return failed > 0 or passed == 0
 
 
 if __name__ == "__main__":

@@ -90,7 +90,8 @@ fails "$PWD/č d/share/fixed_decimal/manifest is missing: nothing is removed" un
 
 # What has changed since stays, with its folder and the manifest, until it is as it was installed.
 bash "$copy/tools/install.sh" 'č d' > "$room/log" 2>&1
-cp 'č d/bin/fixdec' fixdec && echo >> 'č d/bin/fixdec' && ln -sf "$PWD/fixdec" 'č d/bin/plural' && echo > 'č d/share/man/mine'
+cp 'č d/bin/fixdec' fixdec && echo >> 'č d/bin/fixdec' &&
+  ln -sf "$PWD/fixdec" 'č d/bin/plural' && echo > 'č d/share/man/mine'
 fails "$PWD/č d/bin/plural is not what was installed: it stays" uninstall 'č d'
 [ "$(grep -c 'it stays' "$room/log")" = 2 ] && cmp -s fixdec "$copy/crates/fixdec/out/fixdec"
 judge $? "what is linked stays as it was: $(cat "$room/log")"

@@ -45,7 +45,8 @@ if command -v man > /dev/null && command -v lexgrog > /dev/null; then
   for program in fixdec fixdec_lines plural; do
     has $program $(words $program) 'Status 0' 'Status 1' 'Status 2' 'Status 3' "\$ $program "
   done
-  has fixed_decimal $(grep -o '\bfd_[a-z0-9_]*(' c/fixed_decimal.h) $(grep -o '^    FD_[A-Z_]* = ' c/fixed_decimal.h | tr -d ' =')
+  has fixed_decimal $(grep -o '\bfd_[a-z0-9_]*(' c/fixed_decimal.h) \
+    $(grep -o '^    FD_[A-Z_]* = ' c/fixed_decimal.h | tr -d ' =')
   for name in $(sed -n 's/^[a-z_0-9]* \(fd_[a-z0-9_]*\)(.*/\1/p' c/fixed_decimal.h); do
     man -M "$room/man" 3 $name 2> "$room/log" | grep -q "^ *$name$\|^ *$name, \|, $name$"
     judge $? "man 3 $name: $(head -n 1 "$room/log")"
@@ -90,8 +91,8 @@ offers 'fixdec 5 shift:'
 offers 'fixdec 5 read:' "${locales[@]}"
 offers 'fixdec 5 format:de-C' de-ch
 offers 'fixdec 5 format:de:mi' min2
-offers 'fixdec 5 format:de:pr' precision-integer precision-unlimited precision-currency-standard precision-currency-cash \
-  precision-increment/
+offers 'fixdec 5 format:de:pr' precision-integer precision-unlimited \
+  precision-currency-standard precision-currency-cash precision-increment/
 offers "fixdec 5 'format:de:currency/EUR sign-a" 'format:de:currency/EUR sign-'{auto,always,accounting} \
   'format:de:currency/EUR sign-accounting-'{always,except-zero,negative}
 offers 'fixdec 5 "read:de:lenient:perc' 'read:de:lenient:percent'
@@ -102,7 +103,8 @@ offers 'plural en:' cardinal ordinal
 offers 'plural en 1'
 # A word that is offered is one that the program takes.
 for stem in notation-simple compact-short K engineering percent %x100 permille precision-integer rounding-mode-half-up \
-  group-min2 latin unit-width-iso-code sign-accounting-except-zero currency/ scale/ numbering-system/ unit/ per-measure-unit/; do
+  group-min2 latin unit-width-iso-code sign-accounting-except-zero \
+  currency/ scale/ numbering-system/ unit/ per-measure-unit/; do
   COMP_LINE="fixdec 5 'format:de:$stem" COMP_POINT=${#COMP_LINE}
   _fixed_decimal fixdec
   [[ " ${COMPREPLY[*]} " == *" format:de:$stem "* ]]

@@ -87,6 +87,12 @@ row() {
   judge $? "$1: ${found:0:500}"
 }
 
+# selects RESULT EXPRESSION..: what these expressions give.
+selects() {
+  listed "${@:2}"
+  row "$list" "$1"
+}
+
 # rejects 'CODE|LINE' EXPRESSION..: an error with this SQLSTATE and this line.
 rejects() {
   for expression in "${@:2}"; do
@@ -100,13 +106,14 @@ database=postgres
 for _ in $(seq 300); do sql 'SELECT 1' > /dev/null && break; sleep 0.1; done
 try 'the server' sql 'SELECT 1' || { cat "$room/server"; finish; exit; }
 try 'CREATE EXTENSION' sql 'CREATE EXTENSION fixed_decimal'
-row "count(*) FROM pg_proc WHERE probin LIKE '%fixed_decimal' AND provolatile = 'i' AND proisstrict AND proparallel = 's'" 7
-row "count(*) FROM pg_proc WHERE probin LIKE '%fixed_decimal'" 7
+functions="count(*) FROM pg_proc WHERE probin LIKE '%fixed_decimal'"
+row "$functions AND provolatile = 'i' AND proisstrict AND proparallel = 's'" 7
+row "$functions" 7
 
 # ---- Results.
 block docs/SQL.md prices-postgresql.sql > "$room/prices.sql"
-writes docs/SQL.md 'psql -qAt -f prices-postgresql.sql prices' psql -X -qAt -h "$room/data" -U postgres -f "$room/prices.sql" \
-  "$database"
+writes docs/SQL.md 'psql -qAt -f prices-postgresql.sql prices' \
+  psql -X -qAt -h "$room/data" -U postgres -f "$room/prices.sql" "$database"
 nbsp=$'\xc2\xa0'
 row "fixdec('1234.565', 'round:-2:half-even:1', 'format:de')" 1.234,56
 row "fixdec(1234.565, 'round:-2:half-even:1', 'format:de')" 1.234,56
@@ -115,28 +122,39 @@ row "fixdec('12', 'concat:0.5', 'concat:0.005', 'display:always')" +12.505
 row "fixdec(250), fixdec('2.50'), fixdec(2.50::numeric(6,3)), fixdec(-0.0), fixdec('-0.0')" '250|2.50|2.500|0.0|-0.0'
 row "fixdec('1 234,5', 'read:fr:lenient', 'format:de:never'), fixdec(1234, 'format:es:always')" '1234,5|1.234'
 row "fixdec('EUR 1.234,5', 'read:de:lenient:currency/EUR', 'format:en:currency/EUR .00')" '€1,234.50'
-row "fixdec('1', VARIADIC '{}'), fixdec('1', VARIADIC '{shift:1,shift:1}'), length(fixdec('1', 'pad-end:-32768'))" '1|100|32770'
+row "fixdec('1', VARIADIC '{}'), fixdec('1', VARIADIC '{shift:1,shift:1}'), length(fixdec('1', 'pad-end:-32768'))" \
+  '1|100|32770'
 row "fixdec('1'$(printf ", 'shift:1'%.0s" {1..60}))" 1000000000000000000000000000000000000000000000000000000000000
 row "fixdec('1', 'concat:0.' || repeat('7', 2100)) = '1.' || repeat('7', 2100)" t
 row "format_number('de', 'currency/INR', '1234567'), format_number('es', 'KK', -1234.5)" "1.234.567,00$nbsp₹|-1,2 mil"
-row "format_number('uk', 'percent', 5300000), format_number('de', '', 1e15)" "5${nbsp}300${nbsp}000%|1.000.000.000.000.000"
+row "format_number('uk', 'percent', 5300000), format_number('de', '', 1e15)" \
+  "5${nbsp}300${nbsp}000%|1.000.000.000.000.000"
 row "format_number('en', '.00', 7), format_number('ar-u-nu-arab', '', 12.5)" '7.00|١٢٫٥'
 row "read_number('de', 'currency/EUR', '-1.234,57$nbsp€'), read_number('de', '', '1.234,50')" '-1234.57|1234.50'
 row "read_number('de', 'currency/EUR', '5,00$nbsp€') + 1, pg_typeof(read_number('en', '', '1'))" '6.00|numeric'
-row "format_number('pl', ARRAY['style', 'unit', 'unit', 'day', 'unitDisplay', 'long'], 3), format_number('fr', '{style,percent,maximumFractionDigits,1}'::text[], 0.125)" \
-  "3 dni|12,5$nbsp%"
-row "format_number('en', ARRAY['style', 'currency', 'currency', 'USD', 'currencyDisplay', 'name'], 42), read_number('de', ARRAY['style', 'currency', 'currency', 'EUR'], '-1.234,57$nbsp€')" \
-  '42.00 US dollars|-1234.57'
-row "plural('ru', 2), plural('en:ordinal', 22), plural('en_GB.UTF-8:cardinal', 1.0), plural('en', 1)" 'few|two|other|one'
+selects "3 dni|12,5$nbsp%" "format_number('pl', ARRAY['style', 'unit', 'unit', 'day', 'unitDisplay', 'long'], 3)" \
+  "format_number('fr', '{style,percent,maximumFractionDigits,1}'::text[], 0.125)"
+selects '42.00 US dollars|-1234.57' \
+  "format_number('en', ARRAY['style', 'currency', 'currency', 'USD', 'currencyDisplay', 'name'], 42)" \
+  "read_number('de', ARRAY['style', 'currency', 'currency', 'EUR'], '-1.234,57$nbsp€')"
+row "plural('ru', 2), plural('en:ordinal', 22), plural('en_GB.UTF-8:cardinal', 1.0), plural('en', 1)" \
+  'few|two|other|one'
 row "plural('one: i = 1 and v = 0', 1), plural('one: i = 1 and v = 0', '1.0'), plural('ja', 1)" 'one|other|other'
-row "fixdec(NULL::text, 'trim-end') IS NULL, fixdec(NULL::numeric, 'trimm') IS NULL, fixdec('1', VARIADIC NULL) IS NULL" 't|t|t'
-row "format_number(NULL, '', 1) IS NULL, format_number('de', NULL, 1) IS NULL, format_number('de', '', NULL) IS NULL" 't|t|t'
-row "read_number(NULL, '', '1') IS NULL, read_number('de', NULL, '1') IS NULL, read_number('de', '', NULL) IS NULL" 't|t|t'
+selects 't|t|t' "fixdec(NULL::text, 'trim-end') IS NULL" "fixdec(NULL::numeric, 'trimm') IS NULL" \
+  "fixdec('1', VARIADIC NULL) IS NULL"
+selects 't|t|t' "format_number(NULL, '', 1) IS NULL" "format_number('de', NULL, 1) IS NULL" \
+  "format_number('de', '', NULL) IS NULL"
+selects '1250000|1200000|1200' "read_number('en', 'K', '1.25M')" \
+  "read_number('de', ARRAY['notation', 'compact'], '1,2${nbsp}Mio.')" "read_number('en', 'scientific', '1.2E3')"
+selects 't|t|t' "read_number(NULL, '', '1') IS NULL" "read_number('de', NULL, '1') IS NULL" \
+  "read_number('de', '', NULL) IS NULL"
 row "plural(NULL, 1) IS NULL, plural('de', NULL) IS NULL" 't|t'
 
 # ---- Errors.
-rejects '22004|a word is NULL' "fixdec('1', NULL)" "fixdec(1, 'trim-end', NULL)" "fixdec('x', VARIADIC ARRAY[NULL, 'trimm'])"
-rejects '22023|no such option' "format_number('en', ARRAY['style', 'units'], 1)" "format_number('en', ARRAY['Style', 'unit'], 1)"
+rejects '22004|a word is NULL' "fixdec('1', NULL)" "fixdec(1, 'trim-end', NULL)" \
+  "fixdec('x', VARIADIC ARRAY[NULL, 'trimm'])"
+rejects '22023|no such option' "format_number('en', ARRAY['style', 'units'], 1)" \
+  "format_number('en', ARRAY['Style', 'unit'], 1)"
 rejects '22023|unknown unit' "format_number('en', ARRAY['style', 'unit', 'unit', 'furlong'], 1)"
 rejects '22023|unknown option' "format_number('en', ARRAY['style', 'unit'], 1)"
 rejects '22023|names of options with values' "format_number('en', ARRAY['style'], 1)"
@@ -144,12 +162,13 @@ rejects '22P02|start: syntax' "fixdec('1x', 'trim-end')" "fixdec('')" "fixdec('N
   "fixdec(numeric 'Infinity', 'format:de')" "format_number('de', '', 'NaN')" "format_number('de', '', '-Infinity')" \
   "plural('de', 'NaN')" "plural('one: i = 1', 'Infinity')" "read_number('de', 'currency/EUR', 'x')" \
   "read_number('en', '', 'NaN')" "fixdec('1.2,3', 'read:de')" "fixdec('1 USD', 'read:de:currency/EUR')"
-rejects '22003|start: limit' "fixdec(repeat('1', 32769))" "fixdec(repeat('1', 32769)::numeric)" "fixdec('0.' || repeat('1', 32769))" \
-  "fixdec(10::numeric ^ 131071)" "format_number('de', '', repeat('1', 32769)::numeric)" "plural('de', repeat('1', 32769)::numeric)" \
+rejects '22003|start: limit' "fixdec(repeat('1', 32769))" "fixdec(repeat('1', 32769)::numeric)" \
+  "fixdec('0.' || repeat('1', 32769))" "fixdec(10::numeric ^ 131071)" \
+  "format_number('de', '', repeat('1', 32769)::numeric)" "plural('de', repeat('1', 32769)::numeric)" \
   "read_number('en', '', repeat('1', 32769))"
 row "length(fixdec(repeat('1', 32768)::numeric)), length(fixdec(('0.' || repeat('1', 16383))::numeric))" '32768|16385'
-row "length(read_number('en', '', repeat('1', 32768))::text), length(read_number('en', '.+', '0.' || repeat('1', 16383))::text)" \
-  '32768|16385'
+selects '32768|16385' "length(read_number('en', '', repeat('1', 32768))::text)" \
+  "length(read_number('en', '.+', '0.' || repeat('1', 16383))::text)"
 for digit in 1 0; do
   rejects '22003|value overflows numeric format' "read_number('en', '.+', '0.' || repeat('$digit', 16384))" \
     "read_number('en', '.+', '1.' || repeat('$digit', 32768))"
@@ -157,12 +176,14 @@ done
 rejects '22003|call 1: overflow' "fixdec('10', 'trim-end', 'shift:32767')"
 rejects '22003|format: overflow' "fixdec('1e32766', 'shift:1', 'format:en:scale/100')" \
   "format_number('en', 'scale/100', ('1' || repeat('0', 32767))::numeric)"
-rejects '22023|no such call' "fixdec('1', 'trimm')" "fixdec('1', 'round:0:up:1')" "fixdec('1', 'round:0:ceil:3')" "fixdec(5, '')" \
-  "fixdec('5', 'shift:4294967298')" "fixdec('5', 'shift: 2')" "fixdec('5', 'shift:+2')" "fixdec('1', 'format:de:')" \
-  "fixdec('1', 'shift:1', 'read:de')" "fixdec('1', 'read:de', 'read:de')" "fixdec('1', 'format:de', 'shift:1')" \
-  "fixdec('1', 'format:de', 'format:en')" "fixdec('1', repeat('shift:1', 1000000))" "fixdec(1.234, 'read:de')"
-rejects '22023|unknown locale' "fixdec('1', 'format:tlh')" "fixdec('1', 'format:')" "format_number('tlh', 'percent', 1)" \
-  "read_number('', '', '1')" "plural('xx', 1)" "format_number(repeat('x', 1000000), '', 1)"
+rejects '22023|no such call' "fixdec('1', 'trimm')" "fixdec('1', 'round:0:up:1')" "fixdec('1', 'round:0:ceil:3')" \
+  "fixdec(5, '')" "fixdec('5', 'shift:4294967298')" "fixdec('5', 'shift: 2')" "fixdec('5', 'shift:+2')" \
+  "fixdec('1', 'format:de:')" "fixdec('1', 'shift:1', 'read:de')" "fixdec('1', 'read:de', 'read:de')" \
+  "fixdec('1', 'format:de', 'shift:1')" "fixdec('1', 'format:de', 'format:en')" \
+  "fixdec('1', repeat('shift:1', 1000000))" "fixdec(1.234, 'read:de')"
+rejects '22023|unknown locale' "fixdec('1', 'format:tlh')" "fixdec('1', 'format:')" \
+  "format_number('tlh', 'percent', 1)" "read_number('', '', '1')" "plural('xx', 1)" \
+  "format_number(repeat('x', 1000000), '', 1)"
 rejects '22023|call 0: overlap' "fixdec('12', 'concat:25')"
 rejects '22023|call 0: syntax' "fixdec('1', 'concat:x')"
 rejects '22023|call 1: limit' "fixdec('1', 'trim-end', 'concat:' || repeat('1', 32769))"
@@ -170,7 +191,7 @@ rejects '22023|skeleton: syntax at 7' "fixdec('x', 'read:de:percent/w')" "format
   "read_number('tlh', 'percent/w', 'x')"
 rejects '22023|skeleton: unsupported at 4' "format_number('en', '.00 rounding-mode-half-odd', 1)"
 rejects '22023|skeleton: syntax at 17' "format_number('en', 'numbering-system/none', 1)"
-rejects '22023|skeleton: no reader' "read_number('vec', 'K', '1')" "fixdec('1', 'read:it:KK')"
+rejects '22023|skeleton: no reader' "read_number('vec', 'K', '1')" "fixdec('1', 'read:vec:K')"
 rejects '22023|rules: syntax at 8' "plural('one: n =', 1)"
 rejects '22023|rules: syntax at 0' "plural('en:nominal', 1)" "plural('', 1)"
 rejects '22023|rules: limit at 9' "plural('one: n = 18446744073709551616', 1)"
@@ -197,15 +218,16 @@ rejects '22P05|character with byte sequence 0xe2 0x82 0xac in encoding "UTF8" ha
 database=sql_ascii
 row "octet_length(format_number('de', 'currency/EUR', 1)), format_number('de', 'currency/EUR', 1)" "9|1,00$nbsp€"
 row "read_number('de', 'currency/EUR', '1,50$nbsp€')" 1.50
-for text in "fixdec(E'\\xff')" "fixdec('1', E'shift:\\xff')" "format_number(E'de\\xff', '', 1)" "plural(E'\\xff', 1)"; do
+for text in "fixdec(E'\\xff')" "fixdec('1', E'shift:\\xff')" "format_number(E'de\\xff', '', 1)" \
+  "plural(E'\\xff', 1)"; do
   rejects '22021|invalid byte sequence for encoding "UTF8": 0xff' "$text"
 done
 unset PGCLIENTENCODING
 database=postgres
 
 # ---- A million rows, beside the program; and in parallel.
-sql "CREATE TABLE prices AS SELECT id, (id::bigint * 7919 % 100000000) * 0.001 AS price FROM generate_series(1, 1000000) AS id" \
-  "COPY prices (price) TO STDOUT" > "$room/prices"
+prices='SELECT id, (id::bigint * 7919 % 100000000) * 0.001 AS price FROM generate_series(1, 1000000) AS id'
+sql "CREATE TABLE prices AS $prices" "COPY prices (price) TO STDOUT" > "$room/prices"
 # same WORDS EXPRESSION: of each row, what the program writes.
 same() {
   sql "COPY (SELECT $2 FROM prices ORDER BY id) TO STDOUT" > "$room/found"
@@ -218,15 +240,20 @@ same 'round:-2:half-even:1 format:de' "fixdec(price, 'round:-2:half-even:1', 'fo
 same "'format:de:currency/EUR .00'" "format_number('de', 'currency/EUR .00', price)"
 # The locale and the words of each row may be others.
 row "count(*) FROM prices WHERE read_number('fr', '.+', format_number('fr', '.+', price)) = price" 1000000
-row "string_agg(x, ' ') FROM (SELECT format_number(l, s, 1234.5) AS x FROM (VALUES ('de', ''), ('de', '.00'), ('en', '.00'), ('de', '')) AS v(l, s)) AS t" \
+values="(VALUES ('de', ''), ('de', '.00'), ('en', '.00'), ('de', '')) AS v(l, s)"
+row "string_agg(x, ' ') FROM (SELECT format_number(l, s, 1234.5) AS x FROM $values) AS t" \
   '1.234,5 1.234,50 1,234.50 1.234,5'
-row "string_agg(x, ' ') FROM (SELECT fixdec(12.5, w) AS x FROM (VALUES ('shift:1'), ('shift:2'), ('shift:2'), ('trim-end')) AS v(w)) AS t" \
-  '125 1250 1250 12.5'
-row "string_agg(plural(l, n), ' ') FROM (VALUES ('ru', 2), ('en', 1), ('few: i = 7', 7), ('few: i = 7', 8)) AS v(l, n)" \
-  'few one few other'
+values="(VALUES ('shift:1'), ('shift:2'), ('shift:2'), ('trim-end')) AS v(w)"
+row "string_agg(x, ' ') FROM (SELECT fixdec(12.5, w) AS x FROM $values) AS t" '125 1250 1250 12.5'
+values="(VALUES ('ru', 2), ('en', 1), ('few: i = 7', 7), ('few: i = 7', 8)) AS v(l, n)"
+row "string_agg(plural(l, n), ' ') FROM $values" 'few one few other'
 parallel=('SET parallel_setup_cost = 0' 'SET parallel_tuple_cost = 0' 'SET min_parallel_table_scan_size = 0'
   'SET max_parallel_workers_per_gather = 2')
-sums="sum(hashtextextended(fixdec(price, 'round:-2:half-even:1', 'format:de'), 0)), sum(hashtextextended(format_number('hi', 'K', price), 0)), sum(read_number('en', '.+', price::text)), sum(length(plural('ru', price))) FROM prices WHERE id % 10 = 0"
+sums="sum(hashtextextended(fixdec(price, 'round:-2:half-even:1', 'format:de'), 0))"
+sums+=", sum(hashtextextended(format_number('hi', 'K', price), 0))"
+sums+=", sum(read_number('en', '.+', price::text))"
+sums+=", sum(length(plural('ru', price)))"
+sums+=" FROM prices WHERE id % 10 = 0"
 serial=$(sql 'SET max_parallel_workers_per_gather = 0' "SELECT $sums")
 found=$(sql "${parallel[@]}" "EXPLAIN (ANALYZE, TIMING OFF) SELECT $sums")
 [[ $found == *'Workers Launched: 2'* && $found == *'Partial Aggregate'* ]]

@@ -2,9 +2,9 @@
 #
 # `copy_programs NAME..` copies programs to the folder $room; tools/built.py proves and builds them first, but where the
 # gate just did. `judge $? NAME` counts the status of the last command, `try NAME COMMAND..` that of a command, and
-# `fails LINE COMMAND..` that it fails. `block PAGE NAME` prints a block of a page, and `writes PAGE NAME COMMAND..` counts
-# whether a command writes one. `missing NAME` says what is not run, and fails under ALL=1, and `finish` prints the last
-# line.
+# `fails LINE COMMAND..` that it fails. `block PAGE NAME` prints a block of a page, and `writes PAGE NAME COMMAND..`
+# counts whether a command writes one. `missing NAME` says what is not run, and fails under ALL=1, and `finish` prints
+# the last line.
 room=$(mktemp -d) || exit 1
 # `timeout` repeats a signal that ends a script, and would end `rm` too.
 trap 'trap "" TERM; rm -rf "$room"' EXIT
@@ -29,7 +29,8 @@ copy_repository() {
   git ls-files -z | tar cf - --null --ignore-failed-read -T - 2> "$room/log" | tar xf - -C "$1"
   for out in crates/*/out; do
     mkdir -p "$1/$out"
-    [ "${2:-}" = '' ] || [ ! -d "$out/rlib" ] || cp -rl "$out/rlib" "$1/$out/" 2> "$room/log" || cp -r "$out/rlib" "$1/$out/"
+    [ "${2:-}" = '' ] || [ ! -d "$out/rlib" ] ||
+      cp -rl "$out/rlib" "$1/$out/" 2> "$room/log" || cp -r "$out/rlib" "$1/$out/"
     for part in built.json libfixed_decimal_ffi.a "$(basename "$(dirname "$out")")"; do
       [ ! -e "$out/$part" ] || cp "$out/$part" "$1/$out/"
     done
@@ -43,6 +44,12 @@ judge() {
     failed=$((failed + 1))
     echo "failed: $2"
   fi
+}
+
+# listed WORD..: the words with commas between them, in $list.
+listed() {
+  printf -v list ', %s' "$@"
+  list=${list:2}
 }
 
 # try NAME COMMAND..: the command succeeds; its output is in $room/out.
@@ -64,12 +71,14 @@ block() {
     { here = (here && $0 == "") || (index($0, name) && /:$/) }' "$1"
 }
 
-# writes PAGE NAME COMMAND..: the command writes the block of the page with this name.
+# writes PAGE NAME COMMAND..: the command succeeds, and writes the block of the page with this name.
 writes() {
+  local status
   block "$1" "$2" > "$room/wanted"
   "${@:3}" > "$room/found" 2>&1
-  [ -s "$room/wanted" ] && cmp -s "$room/found" "$room/wanted"
-  judge $? "$1, $2: $(tr '\n' ' ' < "$room/found")"
+  status=$?
+  [ $status = 0 ] && [ -s "$room/wanted" ] && cmp -s "$room/found" "$room/wanted"
+  judge $? "$1, $2: status $status, $(tr '\n' ' ' < "$room/found")"
 }
 
 # missing NAME: what is not there is not run.

@@ -1,9 +1,10 @@
 #!/usr/bin/env bash
-# Tries what tools/release.sh packs, as its users take it: the archive and the package of Debian, which have the same bytes
-# wherever they are packed; releases that fail; and the names of versions. With BUILT_BY_GATE set only the exports of the
-# C library are proved. What is missing is a line `not run: ..`, and a failure under ALL=1: dpkg, xz, and the headers of
-# Python and SQLite, without which nothing is packed; pkg-config, sqlite3, cargo, and venv. The variable PYTHONS has the
-# programs of more versions of Python that take the wheel. The last line is `N passed, M failed`; the status is 0 if M is 0.
+# Tries what tools/release.sh packs, as its users take it: the archive and the package of Debian, which have the same
+# bytes wherever they are packed; releases that fail; and the names of versions. With BUILT_BY_GATE set only the exports
+# of the C library are proved. What is missing is a line `not run: ..`, and a failure under ALL=1: dpkg, xz, and the
+# headers of Python and SQLite, without which nothing is packed; pkg-config, sqlite3, cargo, and venv. The variable
+# PYTHONS has the programs of more versions of Python that take the wheel. The last line is `N passed, M failed`; the
+# status is 0 if M is 0.
 set -u
 unset CDPATH
 cd -- "$(dirname -- "$0")/.." || exit 1
@@ -58,7 +59,8 @@ judge $? "what is packed: $(ls -A packed | tr '\n' ' ')"
 
 # The same sources in another folder, under another umask, locale and time zone.
 mkdir -p 'other folder/tree' 'other folder/packed' && tar -C "$copy" -cf - . | tar -C 'other folder/tree' -xf -
-(umask 077 && cd 'other folder' && TZ=Asia/Tokyo LC_ALL=C bash tree/tools/release.sh --release packed) > "$room/log" 2>&1
+(umask 077 && cd 'other folder' && TZ=Asia/Tokyo LC_ALL=C bash tree/tools/release.sh --release packed) \
+  > "$room/log" 2>&1
 judge $? "release.sh in another folder: $(tail -n 1 "$room/log")"
 for file in "$name.tar.gz" "$package"; do
   cmp "packed/$file" "other folder/packed/$file" > "$room/log" 2>&1
@@ -68,7 +70,8 @@ rm -r 'other folder'
 
 # ---- The archive, unpacked in a folder with a blank, without the kit
 mkdir 'e f' && tar -C 'e f' -xzf "packed/$name.tar.gz" && top="$PWD/e f/$name"
-(cd "$top" && sha256sum --check --quiet SHA256SUMS && [ "$(wc -l < SHA256SUMS)" = $(($(find . -type f | wc -l) - 1)) ]) > "$room/log" 2>&1
+(cd "$top" && sha256sum --check --quiet SHA256SUMS &&
+  [ "$(wc -l < SHA256SUMS)" = $(($(find . -type f | wc -l) - 1)) ]) > "$room/log" 2>&1
 judge $? "SHA256SUMS has each file: $(head -n 1 "$room/log")"
 ! tar -tvzf "packed/$name.tar.gz" | grep -v '^\(-rw[-x]r-[-x]r-[-x]\|drwxr-xr-x\|lrwxrwxrwx\) 0/0 .* 1980-01-01 '
 judge $? 'all read the files, whose owner and date are fixed'
@@ -97,7 +100,8 @@ judge $? "the wheel: $wheel"
 takes() {
   try "a venv of $1" "$1" -m venv --clear venv
   try "pip install by $1" venv/bin/pip install --no-index --quiet "$wheel"
-  found=$(venv/bin/python -c 'import fixed_decimal as it; print(it.__version__, it.Decimal("1234.565").round(-2).format("de"))')
+  found=$(venv/bin/python -c \
+    'import fixed_decimal as it; print(it.__version__, it.Decimal("1234.565").round(-2).format("de"))')
   [ "$found" = "$newest 1.234,56" ]
   judge $? "the wheel, $1: $found"
   venv/bin/python "$copy/python/tests/test_fixed_decimal.py" 1000 > "$room/log" 2>&1
@@ -109,7 +113,8 @@ else
   missing python3-venv
 fi
 if command -v sqlite3 > /dev/null; then
-  found=$(sqlite3 -cmd ".load '$top/lib/sqlite3/fixdec'" :memory: "SELECT fixdec('1234.565', 'round:-2:half-even:1', 'format:de')" 2>&1)
+  found=$(sqlite3 -cmd ".load '$top/lib/sqlite3/fixdec'" :memory: \
+    "SELECT fixdec('1234.565', 'round:-2:half-even:1', 'format:de')" 2>&1)
   [ "$found" = 1.234,56 ]
   judge $? "fixdec.so: $found"
 else
@@ -118,9 +123,12 @@ fi
 # runs_in_rust NAME RUST: a new package with this crate writes 1.234,56.
 runs_in_rust() {
   cargo new --quiet --offline "$1" && echo "fixed_decimal_proved = { path = \"$2\" }" >> "$1/Cargo.toml" &&
-    awk '/fixed_decimal_proved = / { near = 1 } near && /^```rust$/ { shown = 1; near = 0; next } /^```$/ { shown = 0 } shown' \
-      "$top/README.md" > "$1/src/main.rs" &&
-    found=$(cd "$1" && CARGO_TARGET_DIR=target cargo run --quiet --offline 2> "$room/log") && [ "$found" = 1.234,56 ] &&
+    awk '/fixed_decimal_proved = / { near = 1 }
+      near && /^```rust$/ { shown = 1; near = 0; next }
+      /^```$/ { shown = 0 }
+      shown' "$top/README.md" > "$1/src/main.rs" &&
+    found=$(cd "$1" && CARGO_TARGET_DIR=target cargo run --quiet --offline 2> "$room/log") &&
+    [ "$found" = 1.234,56 ] &&
     grep -qF "version = \"$newest\"" "$2/Cargo.toml"
   judge $? "the crate in $2: ${found:-} $(tail -n 1 "$room/log")"
 }
@@ -135,13 +143,14 @@ if command -v dpkg > /dev/null; then
   # dpkg_in VERSION WORD..: dpkg where this version of libc6 is installed.
   dpkg_in() {
     rm -rf system && mkdir -p system/var/lib/dpkg/{info,updates,triggers} && : > system/var/lib/dpkg/available
-    printf 'Package: libc6\nStatus: install ok installed\nArchitecture: amd64\nMaintainer: x\nDescription: x\nVersion: %s\n' \
-      "$1" > system/var/lib/dpkg/status
+    printf '%s\n' 'Package: libc6' 'Status: install ok installed' 'Architecture: amd64' 'Maintainer: x' \
+      'Description: x' "Version: $1" > system/var/lib/dpkg/status
     dpkg --root="$PWD/system" --force-not-root --force-bad-path --log=/dev/null "${@:2}"
   }
   try 'dpkg --install' dpkg_in 2.36-9 --install "packed/$package"
-  [ "$(system/usr/bin/plural en 1)" = one ] && [ -f system/usr/lib/libfixed_decimal.so ] && [ -f system/usr/share/man/man1/fixdec.1.gz ] &&
-    [ -f system/usr/share/doc/fixed-decimal/copyright ] && [ -z "$(find system/usr -name '*.whl')" ]
+  [ "$(system/usr/bin/plural en 1)" = one ] && [ -f system/usr/lib/libfixed_decimal.so ] &&
+    [ -f system/usr/share/man/man1/fixdec.1.gz ] && [ -f system/usr/share/doc/fixed-decimal/copyright ] &&
+    [ -z "$(find system/usr -name '*.whl')" ]
   judge $? 'the files of the package'
   [ "$(dpkg --root="$PWD/system" --verify fixed-decimal 2>&1)" = '' ] &&
     [ "$(dpkg-query --admindir=system/var/lib/dpkg -W -f '${Version} ${Architecture} ${Depends}' fixed-decimal)" = \
@@ -182,7 +191,8 @@ for number in 1 2; do
   others[number]=$!
 done
 wait "${others[1]}" && wait "${others[2]}" && [ "$(ls -A partly | tr '\n' ' ')" = "$package $name.tar.gz " ] &&
-  cmp "packed/$name.tar.gz" "partly/$name.tar.gz" > "$room/log" 2>&1 && cmp "packed/$package" "partly/$package" > "$room/log" 2>&1
+  cmp "packed/$name.tar.gz" "partly/$name.tar.gz" > "$room/log" 2>&1 &&
+  cmp "packed/$package" "partly/$package" > "$room/log" 2>&1
 judge $? "two releases at once: $(tail -qn 1 log.1 log.2 "$room/log" | tr '\n' ' ')"
 fails 'release.sh: /proc: *' release /proc
 sed -i 's/^version = .*/version = "9.9.9"/' "$copy/rust/Cargo.toml"
@@ -197,7 +207,8 @@ fails "release.sh: $not_a_version, but $newest+$head" bash shallow/tools/release
 heading Unreleased && head=$(commit unreleased)
 fails "release.sh: $not_a_version, but $newest+$head" release --release packed
 try 'release.sh after a version' release packed
-[ -f "packed/fixed_decimal-$newest+$head-x86_64-linux.tar.gz" ] && [ -f "packed/fixed-decimal_$newest+${head}_amd64.deb" ] &&
+[ -f "packed/fixed_decimal-$newest+$head-x86_64-linux.tar.gz" ] &&
+  [ -f "packed/fixed-decimal_$newest+${head}_amd64.deb" ] &&
   grep -qx "$not_a_version: packs $newest+$head" "$room/out"
 judge $? "the version after a version: $(head -n 1 "$room/out")"
 finish

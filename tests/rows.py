@@ -27,8 +27,12 @@ space is `000`; in skeletons `«@*3»` is `@@@`, and `␉`, `␊` and `␍` are 
 `node tools/locales/node.js vectors` writes rows of decimals and categories for all locales, by the node that is
 installed, which has to be node 20 for the texts of CLDR 48.
 
+A text of a row is also read back, where its numbers are read. The lines before the last one say of each notation how
+many texts are, and in which locales how many are not, since there is no reader.
+
 The last line is `N passed, M failed`; the status is 0 if M is 0.
 """
+import collections
 import ctypes
 import functools
 import glob
@@ -48,7 +52,7 @@ UNREADABLE, DIGIT_OPTIONS = NUMBERS["FD_UNREADABLE_FORMAT"], NUMBERS["FD_DIGIT_O
 SKELETON_SYNTAX, UNSUPPORTED = NUMBERS["FD_SKELETON_SYNTAX"], NUMBERS["FD_SKELETON_UNSUPPORTED"]
 STANDARD, COMPACT = NUMBERS["FD_STANDARD"], (NUMBERS["FD_COMPACT_SHORT"], NUMBERS["FD_COMPACT_LONG"])
 PERCENT, CURRENCY, UNIT, NAME = (NUMBERS[f"FD_{name}"] for name in ("PERCENT", "CURRENCY", "UNIT", "NAME"))
-BY_INCREMENT, EXPONENT_NEVER = NUMBERS["FD_BY_INCREMENT"], NUMBERS["FD_EXPONENT_NEVER"]
+BY_INCREMENT, NEVER, EXPONENT_NEVER = (NUMBERS[f"FD_{name}"] for name in ("BY_INCREMENT", "NEVER", "EXPONENT_NEVER"))
 
 # The names and the classes of errors of digit options, by fd_digit_reason.
 REASONS = [("IntegerDigits", "RangeError"), ("Increment", "RangeError"), ("SignificantDigits", "RangeError"),
@@ -63,13 +67,17 @@ KINDS = ["integer", "group", "decimal", "fraction", "minusSign", "plusSign", "pe
          "approximatelySign"]
 SOURCES = ["shared", "startRange", "endRange"]
 # The options of what is around a number.
-TEXT_OPTIONS = ["style", "unit", "unitDisplay", "currency", "currencyDisplay", "currencySign", "notation",
-                "compactDisplay", "numberingSystem"]
+WORD_OPTIONS = ["notation", "compactDisplay", "numberingSystem"]
+TEXT_OPTIONS = ["style", "unit", "unitDisplay", "currency", "currencyDisplay", "currencySign", *WORD_OPTIONS]
 HANIDEC = {digit: value for value, digit in enumerate("〇一二三四五六七八九")}
 NEGATIVE = set("-(\u2212\u2010\u2011\u2012\ufe63\uff0d")
 ROOM = ctypes.create_string_buffer(1 << 18)
 PARTS = (TYPES["fd_part"] * (1 << 16))()
 CHECKS = [None, "parts", "read", "lenient", "readers"]
+NOTATIONS = ["standard", "scientific", "engineering", "compact", "compact"]
+# How many texts of a notation are read back, and how many of a locale have no reader.
+READ_BACK = {notation: collections.Counter() for notation in NOTATIONS}
+UNREAD = {notation: collections.Counter() for notation in NOTATIONS}
 # What rows of a file are, if they do not hold: False, or None for no rows.
 WANTED = {"wrong.tsv": False, "malformed.tsv": None}
 # No calls; C wants no null pointer.
@@ -148,9 +156,9 @@ def has_number(text):
     return digits(text, "") != ""
 
 
-def plain_texts(tag, options, numbers):
-    """The texts of numbers by options, with the digits that they have by default, and without a scale."""
-    words = [f"{name}={options[name]}" for name in TEXT_OPTIONS if name in options]
+def plain_texts(tag, options, numbers, names=TEXT_OPTIONS):
+    """The texts of numbers by options with these names, with the digits that they have by default, without a scale."""
+    words = [f"{name}={options[name]}" for name in names if name in options]
     plain, _ = formatter(tag, " ".join([*words, "scale=0"]))
     return [formatted(plain, number) for number in numbers]
 
@@ -160,15 +168,16 @@ def has_unreadable_unit(tag, options):
     return not all(map(has_number, plain_texts(tag, options, map(str, range(101)))))
 
 
-def has_unreadable_words(tag, options):
-    """Whether a number has a word without a number, or two numbers have the same text."""
-    texts = plain_texts(tag, options, [f"{digit}e{power}" for digit in (1, 2, 3, 5) for power in range(16)])
-    return len(set(texts)) < len(texts) or not all(map(has_number, texts))
-
-
 def has_name(own):
     """Whether a unit or the name of a currency is written."""
     return own.style == UNIT or own.style == CURRENCY and own.currency_display == NAME
+
+
+def has_unreadable_words(own, tag, options):
+    """Whether a number has a word without a number, or two numbers have the same text, without a unit and a name."""
+    numbers = [f"{digit}e{power}" for digit in (1, 2, 3, 5) for power in range(16)]
+    texts = plain_texts(tag, options, numbers, WORD_OPTIONS if has_name(own) else TEXT_OPTIONS)
+    return len(set(texts)) < len(texts) or not all(map(has_number, texts))
 
 
 def may_be_unreadable(made, tag, options):
@@ -184,26 +193,41 @@ def may_be_unreadable(made, tag, options):
     if own.precision == BY_INCREMENT or own.maximum_integer_digits < 32768:
         return True
     if own.notation in COMPACT:
-        return has_unreadable_words(tag, options)
+        return has_unreadable_words(own, tag, options)
     return own.exponent_sign == EXPONENT_NEVER or has_name(own)
+
+
+def is_read_without_an_end(made, text, value):
+    """Whether a text has the same value without its first or its last character, where this is no digit."""
+    cuts = [(text[:1], text[1:]), (text[-1:], text[:-1])]
+    return any(read(made, rest, 0) == value for end, rest in cuts if not has_number(end))
 
 
 def reads_back(made, tag, options, text):
     """Whether both readers read a text back as a number with this text, or as zero, which may show fewer zeros when it
     is rounded once more."""
     value = read(made, text, 0)
+    own = made.formatter.options
+    notation = NOTATIONS[own.notation]
     if value == UNREADABLE:
+        UNREAD[notation][tag] += 1
         return may_be_unreadable(made, tag, options)
+    READ_BACK[notation][tag] += 1
     if text.endswith("E-32769"):
         return value == LIMIT
     if not isinstance(value, str) or read(made, text, 1) != value:
         return False
+    # A unit and a name have texts of other categories, which may begin with each other.
+    if own.notation != STANDARD and not has_name(own) and is_read_without_an_end(made, text, value):
+        return False
     if not value.strip("-+0."):
         return True
     again = formatted(made, value)
+    # Without a sign the word of -1 may be another one: in French `1 millier`, and `mille` of 1.
+    if own.sign_display == NEVER and formatted(made, f"-{value}") == text:
+        return True
     # In compact notation a unit, a name and the space of a percent sign may be those of the number before it was
     # rounded, as the space in Icelandic.
-    own = made.formatter.options
     by_whole = own.notation in COMPACT and (own.style == PERCENT or has_name(own))
     return again == text or by_whole and digits(again) == digits(text) and read(made, again, 0) == value
 
@@ -437,9 +461,11 @@ def holds(fields):
 
 
 def outcome(line):
-    """Whether a line is a row that holds; None if it is no row."""
+    """Whether a line is a row that holds; None if it is no row, and a word if the library writes no UTF-8."""
     try:
         return holds(line.rstrip("\n").split("\t"))
+    except UnicodeDecodeError:
+        return "no UTF-8"
     except (ValueError, LookupError):
         return None
 
@@ -464,6 +490,9 @@ def main(names):
             sys.exit(f"{name} has no rows")
         count += found
     print("\n".join(failures[:20]))
+    for notation in READ_BACK:
+        unread = ", ".join(f"{tag} {number}" for tag, number in sorted(UNREAD[notation].items())) or "none"
+        print(f"{notation} notation: {READ_BACK[notation].total()} texts are read back; without a reader: {unread}")
     print(f"{count - len(failures)} passed, {len(failures)} failed")
     return len(failures) > 0
 

@@ -2,8 +2,8 @@
 # Sets the project up as README says: makes a clone of the last commit, without built files, and runs README's first
 # command in it, which proves nothing and takes half a minute; installs the built programs, and runs README's other
 # commands with them; and runs PROGRAMS' commands of GNU parallel, without which there is a line `not run: ..`, and a
-# failure under ALL=1. tools/built.py proves and builds the programs first, but where the gate just did. The last line is
-# `N passed, M failed`; the status is 0 if M is 0.
+# failure under ALL=1. tools/built.py proves and builds the programs first, but where the gate just did. The last line
+# is `N passed, M failed`; the status is 0 if M is 0.
 set -u
 unset CDPATH
 cd -- "$(dirname -- "$0")/.." || exit 1

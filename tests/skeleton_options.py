@@ -13,10 +13,12 @@ sys.dont_write_bytecode = True
 from c_library import TYPES, fd
 
 OK, UNKNOWN_OPTION, DIGIT_OPTIONS, NO_SKELETON, DEFAULT = 0, 11, 20, 21, 65535
-CURRENCY, PERMILLE, COMPACT, NEVER, ACCOUNTING, CASH, STANDARD = 3, 2, (3, 4), 1, 1, 1, 0
+CURRENCY, PERMILLE, COMPACT, NEVER, ACCOUNTING, CASH, STANDARD, UNIT, NAME = 3, 2, (3, 4), 1, 1, 1, 0, 4, 4
 # The fraction digits and the increment of `precision-currency-cash` in ICU, and those of ECMA-402 that are others.
 CASH_DIGITS = {b"USD": (2, 1), b"EUR": (2, 1), b"CHF": (2, 5), b"JPY": (0, 1), b"DKK": (1, 5), b"KWD": (3, 1)}
 ECMA_CASH = {b"DKK": (2, 50)}
+# Percent is none of them: `unit/percent` of a skeleton is the style percent.
+UNITS = [b"meter", b"day", b"kilometer-per-hour", b"liter-per-mile", b"meter-per-meter"]
 SYSTEMS = [b"latn", b"arab", b"arabext", b"beng", b"deva", b"thai", b"hanidec", b"fullwide"]
 NUMBERS = ["0", "-0.5", "1234567.891", "-999.995", "0.000123455", "25000", "-12.5", "1e21"]
 Options = TYPES["fd_number_options"]
@@ -58,6 +60,18 @@ def random_options(rng):
         set_counts(options, "significant", (DEFAULT, DEFAULT))
         options.rounding_priority, options.rounding_increment = 0, DEFAULT
     return options
+
+
+def set_texts(options, rng):
+    """Sets a unit, the name of the currency, or the decimal separator now and then."""
+    if rng.random() < 0.2:
+        name = rng.choice(UNITS)
+        units = fd.fd_unit(name, len(name))
+        options.style, options.unit, options.per_unit = UNIT, units.unit, units.per_unit
+        options.unit_display = rng.randrange(3)
+    if rng.random() < 0.2:
+        options.currency_display = NAME
+    options.decimal_separator = rng.random() < 0.2
 
 
 def has_own_cash(options):
@@ -113,9 +127,10 @@ def is_right(options, number):
 
 
 def main(count):
-    rng, right, wrong = random.Random(81), 0, 0
+    rng, texts, right, wrong = random.Random(81), random.Random(83), 0, 0
     while right + wrong < count:
         options = random_options(rng)
+        set_texts(options, texts)
         answer = is_right(options, rng.choice(NUMBERS).encode())
         right, wrong = right + (answer is True), wrong + (answer is False)
         if answer is False and wrong <= 10:

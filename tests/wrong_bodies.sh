@@ -5,8 +5,8 @@
 #
 # Run it before a contract of a crate changes, and after. Needs bash and python3. A wrong body takes ten processor
 # seconds, and each crate its own proof first, where `rt check` has not kept it. Libraries that the gate has built of
-# the same sources are taken, and the others proved first. The last line is `N passed, M failed`; the status is 0 if M is
-# 0.
+# the same sources are taken, and the others proved first. The last line is `N passed, M failed`; the status is 0 if M
+# is 0.
 set -u
 unset CDPATH
 cd -- "$(dirname -- "$0")/.." || exit 1

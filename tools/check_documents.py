@@ -29,6 +29,12 @@ OUTSIDE = re.compile(r"\b(?:document|paper|issue|session|request|promise|definit
 ROWS = {"crates/vectors/stdin": ["crates/vectors/rows/*"],
         "crates/cli_vectors/stdin": ["crates/cli_vectors/rows/*", "tests/rows/*skeletons.tsv"]}
 
+# Lines of these kinds of files have at most 120 columns, except, by kind or by path: imports in Rattle, and a line of
+# the template of bash's completions, which is written as it is.
+WRITTEN = (".rt", ".rt.txt", ".antt", ".sh", ".py", ".pyi", ".c", ".h", ".rs", ".js", ".cc", ".cpp", ".sql")
+LONG = {".rt": r"\s*(?:pub )?(?:ghost )?use ", ".antt": r"\s*(?:pub )?(?:ghost )?use ",
+        "tools/make_completions.py": r" *\[\[ \$\{head,,\}\$\{item,,\} == "}
+
 failures, passes = [], 0
 
 
@@ -186,9 +192,18 @@ def imports_of(text):
     return [name for use in uses for name in names_in(use)]
 
 
+def check_widths():
+    """Lines have at most 120 columns, but for those of `LONG`."""
+    for path in FILES:
+        if path.endswith(WRITTEN):
+            longer = LONG.get(path) or LONG.get(os.path.splitext(path)[1], "(?!)")
+            found = [line[:60] for line in read(path).split("\n") if len(line) > 120 and not re.match(longer, line)]
+            check(not found, f"{path}: lines of more than 120 columns: {found}")
+
+
 def check_code():
-    """Lines have their width, callers cite Calling alone, nothing cites what is not in the repository, and each file
-    that a script makes is what the script writes: the tables of locales, the pictures, the reference."""
+    """Callers cite Calling alone, nothing cites what is not in the repository, and each file that a script makes is
+    what the script writes: the tables of locales, the pictures, the reference."""
     for path in FILES:
         if path != "LICENSE" and not path.startswith("tools/"):
             rows = path in ROWS or "/rows/" in path
@@ -196,9 +211,6 @@ def check_code():
                      if OUTSIDE.search(line) and (line.startswith("#") or "\t" not in line or not rows)]
             check(not found, f"{path}: this cites what is not in the repository: {found}")
     for path, text in CODE.items():
-        long = [it[:60] for it in text.splitlines()
-                if len(it) > 120 and not re.match(r"\s*(?:pub )?(?:ghost )?use ", it)]
-        check(not long, f"{path}: lines of more than 120 columns: {long}")
         if path.split("/")[1] in CALLERS:
             for name in imports_of(text):
                 if cited := re.match(r"(?:decimal_digits|decimal_unsigned|fixed_decimal)\.proofs\.(\w+)", name):
@@ -212,10 +224,13 @@ def check_code():
 
 
 def check_rows():
-    """The input of each program that checks rows is what is in its files of rows."""
+    """The input of each program that checks rows is what is in its files of rows, and the output has their number."""
     for path, sources in ROWS.items():
         rows = "".join(read(it) for source in sources for it in sorted(glob.glob(source)))
         check(read(path) == rows, f"{path}: run `cat {' '.join(sources)} > {path}`")
+    # Each line of this one is a row, unless it is a comment or blank.
+    count = len(re.findall(r"^(?!#[^\t\n]*$|$).", read("crates/cli_vectors/stdin"), re.M))
+    check(f"{count} rows hold, 0 fail" in read("crates/cli_vectors/stdout"), f"crates/cli_vectors/stdout: {count} rows")
 
 
 def lines_of(paths):
@@ -270,11 +285,32 @@ def check_counts():
         check(counted in re.sub(r"\s+", " ", read(document)), f"{document}: {counted}")
 
 
+def check_rejection(path):
+    """The comment `# rejected:` of a wrong body names a function of the file that is changed, or of its crate if that
+    file has none of this name, and a clause of it."""
+    comment = re.search(r"^# rejected: (?:\w+::)*(\w+) \| (?:its type: .+|([^,\n]+)(?:, .+)?)$", read(path), re.M)
+    check(comment, f"{path}: no comment `# rejected: FUNCTION | CLAUSE`")
+    if not comment:
+        return
+    name, wanted = comment.groups()
+    source = re.search(r"^file: (.*)", read(path), re.M)[1].strip()
+    sources = [it for it in CODE if it.startswith(f"crates/{path.split('/')[1]}/src/")]
+    found = [it[2] for file in sources if file.endswith(f"/{source}") for it in functions(file) if it[1] == name]
+    found = found or [it[2] for file in sources for it in functions(file) if it[1] == name]
+    check(found, f"{path}: `# rejected:` names {name}, which is no function of {source}")
+    good = not wanted or "-" in wanted or wanted == "the invariant of the loop" or wanted.startswith("the requires of ")
+    # A method without clauses has those of its trait.
+    good = good or any(not it or wanted in it or it == {"ensures"} and wanted == "its only clause" for it in found)
+    check(good or not found, f"{path}: {name} has no clause `{wanted}`, but {found}")
+
+
 def check_wrong_bodies():
-    """Each text that a wrong body changes is in its file exactly once, after the changes before it."""
+    """Each text that a wrong body changes is in its file exactly once, after the changes before it. The function and
+    the clause that reject it are there (tools/wrong_bodies.py)."""
     for path in FILES:
         if not path.endswith(".edit"):
             continue
+        check_rejection(path)
         crate, texts, file, old = path.split("/")[1], {}, "", ""
         for line in read(path).splitlines():
             word, _, rest = line.partition(": ")
@@ -325,8 +361,8 @@ def check_examples():
                         check(written == wanted, f"{document}: `{command}` writes {written!r}")
 
 
-for part in [check_scripts, check_links, check_quotes, check_proved, check_public, check_code, check_rows, check_help,
-             check_versions, check_counts, check_wrong_bodies, check_design, check_examples]:
+for part in [check_scripts, check_links, check_quotes, check_proved, check_public, check_widths, check_code, check_rows,
+             check_help, check_versions, check_counts, check_wrong_bodies, check_design, check_examples]:
     part()
 print("\n".join([*failures, f"{passes} passed, {len(failures)} failed"]))
 sys.exit(1 if failures else 0)

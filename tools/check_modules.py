@@ -1,7 +1,7 @@
 #!/usr/bin/env python3
 """Checks that the modules of each crate use each other without a cycle, and that the reference is what
-tools/make_reference.py makes of them: `python3 tools/check_modules.py`. The last line is `N passed, M failed`. With names
-of crates it prints their graphs: the modules that each one uses, and by which names.
+tools/make_reference.py makes of them: `python3 tools/check_modules.py`. The last line is `N passed, M failed`. With
+names of crates it prints their graphs: the modules that each one uses, and by which names.
 
 A module uses the modules that define the names in its code, whether a name is reached by `crate::`, `super::`, `self::`
 or a re-export. It also uses a module whose `impl` has a method that it calls, if no other module has a method of that

@@ -4,9 +4,9 @@
     tools/installed.py install STAGE PREFIX     copies each file and each link below the folder STAGE
     tools/installed.py uninstall PREFIX         removes what these copies made
 
-The manifest is PREFIX/share/fixed_decimal/manifest, and several copies share it. `sha256sum -c` in PREFIX reads its lines
-too. Links and folders that were made are in its comments. A file is listed before it is copied, so that the manifest
-also covers a copy that is interrupted.
+The manifest is PREFIX/share/fixed_decimal/manifest, and several copies share it. `sha256sum -c` in PREFIX reads its
+lines too. Links and folders that were made are in its comments. A file is listed before it is copied, so that the
+manifest also covers a copy that is interrupted.
 
 A file, or a link, that is not what was installed stays, and so does a folder that is not empty.
 """

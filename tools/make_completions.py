@@ -15,8 +15,8 @@ ROOT = os.path.dirname(os.path.dirname(os.path.abspath(__file__)))
 SAMPLES = ["EUR", "0.05", "100", "*00", "latn", "meter", "length-meter"]
 BEFORE = ["", "percent "]
 AFTER_SPACE = "the stems, after the last space"
-# What completes a word, by patterns of PROGRAM/WORDS BEFORE IT/WORD, of which the first counts: names of lists, and words.
-# They follow the last colon of the word.
+# What completes a word, by patterns of PROGRAM/WORDS BEFORE IT/WORD, of which the first counts: names of lists, and
+# words. They follow the last colon of the word.
 PARTS = [("plural/1/*:*", ["cardinal", "ordinal"]), ("plural/1/*", ["LOCALE", "--help", "--version"]), ("plural/*", []),
          ("fixdec/1/*", ["--help"]), ("*/*/*:* *", [AFTER_SPACE]),
          ("*/*/round:*:*:*", ["INC"]), ("*/*/round:*:*", ["MODE"]), ("*/*/sign:*", ["SIGN"]),
@@ -174,7 +174,9 @@ def completions(lists, template, definition, part, reference, after_space):
     for pattern, kinds in PARTS:
         words = [reference.format(kind) if kind in lists or kind == "LOCALE" else f"'{kind}'" for kind in kinds]
         line = part.format(pattern if "'{0}'" in part else pattern.replace(" ", "\\ "), " ".join(words))
-        made.append(line if kinds != [AFTER_SPACE] else re.sub(r"list=\(.*?\)|set list .*", lambda _: after_space, line))
+        if kinds == [AFTER_SPACE]:
+            line = re.sub(r"list=\(.*?\)|set list .*", lambda _: after_space, line)
+        made.append(line)
     return template.replace("@LISTS@", "\n".join(defined)).replace("@PARTS@", "\n".join(made))
 
 

@@ -2,7 +2,8 @@
 """Writes the manual pages to a folder: `python3 tools/make_manuals.py FOLDER` makes FOLDER/man1 and FOLDER/man3.
 
 fixdec(1), fixdec_lines(1) and plural(1) are made of the sections of docs/PROGRAMS.md, which are found by their
-headings, and fixed_decimal(3) of c/fixed_decimal.h. The version and the date are those of the newest number in CHANGELOG.md.
+headings, and fixed_decimal(3) of c/fixed_decimal.h. The version and the date are those of the newest number in
+CHANGELOG.md.
 """
 import os
 import re
@@ -94,7 +95,8 @@ def heading(name, section):
     kind = "User Commands" if section == 1 else "Library Functions Manual"
     # In a terminal of ASCII.
     ascii = [r".fchar \[u20B9] Rs", r".fchar \[u00A0] \~"]
-    return [f'.TH {name.upper()} {section} {date} "fixed_decimal {version}" "{kind}"', ".nr HY 0", ".nh", ".ad l", *ascii]
+    heading = f'.TH {name.upper()} {section} {date} "fixed_decimal {version}" "{kind}"'
+    return [heading, ".nr HY 0", ".nh", ".ad l", *ascii]
 
 
 def see_also(name):

@@ -16,10 +16,13 @@ from check_modules import ROOT, Crate, text
 
 DESIGN, MODULES = f"{ROOT}/docs/DESIGN.md", f"{ROOT}/docs/MODULES.md"
 CRATES = re.compile(r"(<!-- crates -->\n).*?(<!-- end -->)", re.S)
-HEAD = """# Modules
-
-`tools/pictures.py` makes this page from the sources, and the gate compares it with them. An arrow leads from a module to one that it uses; an arrow that other arrows imply is left out. No modules use each other in a circle, which `tools/check_modules.py` checks. [DESIGN.md](DESIGN.md) has a picture of the crates, and the README.md of each crate says what its modules hold.
-"""
+HEAD = (
+    "# Modules\n\n"
+    "`tools/pictures.py` makes this page from the sources, and the gate compares it with them. "
+    "An arrow leads from a module to one that it uses; an arrow that other arrows imply is left out. "
+    "No modules use each other in a circle, which `tools/check_modules.py` checks. "
+    "[DESIGN.md](DESIGN.md) has a picture of the crates, "
+    "and the README.md of each crate says what its modules hold.\n")
 
 
 def below(graph, name):
@@ -112,8 +115,9 @@ def readme(name, crate, used):
     if lemmas:
         listed = "; ".join(f"`{topic}`: {', '.join(names)}" for topic, names in lemmas.items())
         parts.append(f"Lemmas of several proofs, in `proofs/lemmas`: {listed}.")
-    parts.append("[docs/DESIGN.md](../../docs/DESIGN.md) has all crates, and [docs/MODULES.md](../../docs/MODULES.md) pictures "
-                 "of the modules. `tools/pictures.py` makes this page from the sources.")
+    parts.append("[docs/DESIGN.md](../../docs/DESIGN.md) has all crates, "
+                 "and [docs/MODULES.md](../../docs/MODULES.md) pictures of the modules. "
+                 "`tools/pictures.py` makes this page from the sources.")
     return "\n\n".join(parts) + "\n"
 
 

@@ -28,7 +28,8 @@ commit=$(git rev-parse --short=8 HEAD 2> /dev/null) || commit=unknown
 added=$(git log -1 --abbrev=8 --format=%h -S"## [$number]" -- CHANGELOG.md 2> /dev/null) || added=
 # The oldest commit of a shallow clone seems to add all lines.
 [ "$(git rev-parse --is-shallow-repository 2> /dev/null)" != true ] || added=
-changed=$(git status --porcelain -uno 2> /dev/null && git ls-files -o --exclude-standard crates c rust) || changed=unknown
+changed=$(git status --porcelain -uno 2> /dev/null && git ls-files -o --exclude-standard crates c rust) ||
+  changed=unknown
 version=$number
 if [ "$newest" != "$number" ] || [ "$added" != "$commit" ] || [ -n "$changed" ]; then
   version="$number+$commit${changed:+-changed}"
@@ -113,7 +114,8 @@ echo 'activate-noawait ldconfig' > "$deb/DEBIAN/triggers"
 (cd "$deb" && find usr -type f | sort | xargs md5sum > DEBIAN/md5sums)
 
 (cd "$top" && find . -type f -printf '%P\n' | sort | xargs sha256sum > "$room/sums" && mv "$room/sums" SHA256SUMS)
-tar -C "$room" --sort=name --owner=0 --group=0 --numeric-owner --mtime=@$SOURCE_DATE_EPOCH -czf "$new/$name.tar.gz" "$name"
+tar -C "$room" --sort=name --owner=0 --group=0 --numeric-owner --mtime=@$SOURCE_DATE_EPOCH \
+  -czf "$new/$name.tar.gz" "$name"
 DPKG_DEB_THREADS_MAX=1 dpkg-deb --root-owner-group -Zxz -z6 --build "$deb" "$new/$package" > "$room/log"
 # Both take their places last of all.
 mv -f "$new/$name.tar.gz" "$new/$package" "$folder"

@@ -23,8 +23,9 @@ int main(int, char** words) {
         UNumberFormat* parser = unum_open(UNUM_DECIMAL, nullptr, 0, locale, nullptr, &status);
         for (const char* number : NUMBERS) {
             const char* point = std::strchr(number, '.');
-            LocalizedNumberFormatter formatter = NumberFormatter::withLocale(icu::Locale::forLanguageTag(locale, status))
-                .precision(Precision::fixedFraction(int(std::strlen(point + 1))));
+            LocalizedNumberFormatter formatter =
+                NumberFormatter::withLocale(icu::Locale::forLanguageTag(locale, status))
+                    .precision(Precision::fixedFraction(int(std::strlen(point + 1))));
             icu::UnicodeString text = formatter.formatDecimal(number, status).toString(status);
             double formatted = least(batches, [&] {
                 std::string bytes;

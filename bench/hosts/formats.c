@@ -1,10 +1,10 @@
 /* Times 1234.5, and the range from it to 5678.5, as a locale writes them by a skeleton: a row `call`, locale, skeleton,
  * number or range, nanoseconds of a call.
  *
- * `fd_format` has a formatter that is kept, `fd_format_by_skeleton` makes one each time. `unumf_formatDecimal` of ICU has
- * a formatter and a result that are kept, and unumf_resultToString copies its text in UTF-16. The ranges are those of
- * fd_format_range and unumrf_formatDecimalRange, by formatters that are kept. Each figure is the least processor time of
- * nine batches. With the words CALL LOCALE SKELETON COUNT it makes that many calls, and times none. */
+ * `fd_format` has a formatter that is kept, `fd_format_by_skeleton` makes one each time. `unumf_formatDecimal` of ICU
+ * has a formatter and a result that are kept, and unumf_resultToString copies its text in UTF-16. The ranges are those
+ * of fd_format_range and unumrf_formatDecimalRange, by formatters that are kept. Each figure is the least processor
+ * time of nine batches. With the words CALL LOCALE SKELETON COUNT it makes that many calls, and times none. */
 #include "../../c/fixed_decimal.h"
 #include <stdio.h>
 #include <stdlib.h>

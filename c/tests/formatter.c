@@ -6,14 +6,17 @@ static int same(fd_result a, fd_result b) {
     return a.status == b.status && a.at == b.at && a.count == b.count;
 }
 
-static const char *const tags[] = {"en", "de", "hi", "ar-EG", "ja", "de-CH", "fa-u-nu-latn", "hi-u-nu-deva", "xx", "\xff"};
-static const char *const numbers[] = {"1234.5", "-1234567.891", "0", "-0.00", "+12", "1e32767", "999999.995", "x", "1e32768"};
+static const char *const tags[] = {
+    "en", "de", "hi", "ar-EG", "ja", "de-CH", "fa-u-nu-latn", "hi-u-nu-deva", "xx", "\xff"};
+static const char *const numbers[] = {
+    "1234.5", "-1234567.891", "0", "-0.00", "+12", "1e32767", "999999.995", "x", "1e32768"};
 static const char *const skeletons[] = {
     "", "currency/EUR", "currency/JPY unit-width-iso-code", "percent @@", "%x100 .0", "K", "KK +!", "scientific/*ee/+!",
     "engineering @@@", "currency/CHF precision-currency-cash", ".00/@@@*", ".00/@@@r", "integer-width/##00",
     "precision-increment/0.25", "permille", "compact-long currency/USD", "()-", "currency/XYZ", "numbering-system/arab",
-    "precision-unlimited", "unit/kilometer-per-hour unit-width-full-name", "unit/furlong", "currency/EUR unit-width-full-name",
-    "decimal-always .", "group-thousands", "integer-width/*", "currency/CHF integer-width-trunc",
+    "precision-unlimited", "unit/kilometer-per-hour unit-width-full-name", "unit/furlong",
+    "currency/EUR unit-width-full-name", "decimal-always .", "group-thousands", "integer-width/*",
+    "currency/CHF integer-width-trunc",
     "integer-width/+00000000000000000000000000000000000", "percent/w", "rounding-mode-half-odd"};
 
 /* Each skeleton in each locale: as fd_format_by_skeleton and fd_read_by_skeleton. */
@@ -25,7 +28,8 @@ static void test_skeletons(void) {
                 static uint8_t kept[70000], once[70000];
                 memset(kept, 0xA5, sizeof kept);
                 memset(once, 0xA5, sizeof once);
-                fd_result b = fd_format_by_skeleton(BYTES(numbers[n]), BYTES(tags[t]), BYTES(skeletons[s]), once, 70000);
+                fd_result b =
+                    fd_format_by_skeleton(BYTES(numbers[n]), BYTES(tags[t]), BYTES(skeletons[s]), once, 70000);
                 if (made.status != FD_OK) {
                     CHECK(b.status == made.status && b.at == made.at && all(&made.formatter, sizeof made.formatter, 0));
                     continue;
@@ -50,7 +54,8 @@ static void test_options(void) {
     for (unsigned seed = 0; seed < 3000; seed++) {
         fd_number_options o = FD_NUMBER_OPTIONS;
         srand(seed);
-        static const char *const units[] = {"kilometer", "mile-per-hour", "gram-per-second", "percent", "percent-per-hour"};
+        static const char *const units[] = {
+            "kilometer", "mile-per-hour", "gram-per-second", "percent", "percent-per-hour"};
         fd_units unit = fd_unit(BYTES(units[rand() % 5]));
         o.style = (uint8_t)(rand() % 5);
         o.unit = unit.unit, o.per_unit = unit.per_unit, o.unit_display = (uint8_t)(rand() % 3);
@@ -119,7 +124,8 @@ static void test_parts(void) {
          {1, 2, 3, 4}, 4, NULL, {0}},
         {"en", "K", "1234", "1.2K", {FD_PART_INTEGER, FD_PART_DECIMAL, FD_PART_FRACTION, FD_PART_COMPACT},
          {1, 2, 3, 4}, 4, NULL, {0}},
-        {"en", "percent +!", "5", "+5%", {FD_PART_PLUS_SIGN, FD_PART_INTEGER, FD_PART_PERCENT_SIGN}, {1, 2, 3}, 3, NULL, {0}},
+        {"en", "percent +!", "5", "+5%", {FD_PART_PLUS_SIGN, FD_PART_INTEGER, FD_PART_PERCENT_SIGN},
+         {1, 2, 3}, 3, NULL, {0}},
         {"en", "unit/celsius", "0.1", "0.1°C", {FD_PART_INTEGER, FD_PART_DECIMAL, FD_PART_FRACTION, FD_PART_UNIT},
          {1, 2, 3, 6}, 4, NULL, {0}},
         {"hi-u-nu-deva", "", "12", "१२", {FD_PART_INTEGER}, {6}, 1, NULL, {0}},
@@ -340,8 +346,10 @@ static void test_status_texts(void) {
         {FD_OVERFLOW, 1, 2, "call 1: overflow"}, {FD_OVERFLOW, 2, 2, "format: overflow"},
         {FD_OVERFLOW, 0, 0, "format: overflow"}, {FD_OVERFLOW, 1, 0, "format: overflow"},
         {FD_SYNTAX, 1, 0, "end: syntax"}, {FD_LIMIT, 1, 0, "end: limit"}, {FD_UNKNOWN_CALL, 3, 4, "no such call: 3"},
-        {FD_UNKNOWN_LOCALE, 0, 0, "unknown locale"}, {FD_RULES_SYNTAX, SIZE_MAX, 0, "rules: syntax at 18446744073709551615"},
-        {FD_SKELETON_SYNTAX, 14, 0, "skeleton: syntax at 14"}, {FD_SKELETON_UNSUPPORTED, 4, 0, "skeleton: unsupported at 4"},
+        {FD_UNKNOWN_LOCALE, 0, 0, "unknown locale"},
+        {FD_RULES_SYNTAX, SIZE_MAX, 0, "rules: syntax at 18446744073709551615"},
+        {FD_SKELETON_SYNTAX, 14, 0, "skeleton: syntax at 14"},
+        {FD_SKELETON_UNSUPPORTED, 4, 0, "skeleton: unsupported at 4"},
         {FD_UNREADABLE_FORMAT, 0, 0, "skeleton: no reader"}, {FD_FORMATTER, 0, 0, "no formatter"},
         {FD_UNKNOWN_UNIT, 0, 0, "unknown unit"}};
     for (size_t i = 0; i < COUNT(rows); i++) {
@@ -357,7 +365,8 @@ static void test_status_texts(void) {
     uint8_t b[80];
     for (uint32_t status = 0; status < 300; status++)
         for (size_t at = 0; at < 2; at++)
-            CHECK(fd_status_text(status, at ? SIZE_MAX : 0, 0, b, 80).status == (status < 25 ? FD_OK : FD_UNKNOWN_OPTION));
+            CHECK(fd_status_text(status, at ? SIZE_MAX : 0, 0, b, 80).status ==
+                  (status < 25 ? FD_OK : FD_UNKNOWN_OPTION));
     CHECK(fd_status_text(UINT32_MAX, 0, 0, b, 80).status == FD_UNKNOWN_OPTION);
 }
 

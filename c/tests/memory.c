@@ -1,36 +1,14 @@
 /* Makes each allocation fail in turn: the answer is then FD_MEMORY, what was not written is as it was, nothing leaks.
- * Short values and lists of up to eight calls allocate nothing.
- * Link with -Wl,--wrap=malloc,--wrap=realloc,--wrap=free. */
+ * Short values and lists of up to eight calls allocate nothing. Link as failing.h says. */
 #include "../fixed_decimal.h"
+#include "failing.h"
 #include <stdio.h>
-#include <stdlib.h>
 #include <string.h>
 
 #define BYTES(s) (const uint8_t *)(s), strlen(s)
 #define ROOM 4096
 
-void *__real_malloc(size_t n);
-void *__real_realloc(void *p, size_t n);
-void __real_free(void *p);
-static long count, fail_at, live;
-
-void *__wrap_malloc(size_t n) {
-    if (++count == fail_at) return 0;
-    live++;
-    return __real_malloc(n);
-}
-
-void *__wrap_realloc(void *p, size_t n) {
-    if (++count == fail_at) return 0;
-    return __real_realloc(p, n);
-}
-
-void __wrap_free(void *p) {
-    if (p) live--;
-    __real_free(p);
-}
-
-static char digits[201], lines[450];
+static char digits[201], lines[450], word[210], typed_word[210], exponent[210];
 static uint8_t buffer[ROOM], before[ROOM];
 static const fd_forms own_text, german = {.read.count = 2, .format.count = 2};
 static fd_call calls[9];
@@ -97,6 +75,16 @@ static uint32_t by_percent(void) {
 }
 static uint32_t read_by_skeleton(void) {
     return fd_read_by_skeleton(BYTES(digits), BYTES("de"), BYTES("currency/EUR"), 1, buffer, ROOM).status;
+}
+/* 200 digits with the word of their magnitude, with another word, and with an exponent. */
+static uint32_t read_word(void) {
+    return fd_read_by_skeleton(BYTES(word), BYTES("en"), BYTES("K"), 0, buffer, ROOM).status;
+}
+static uint32_t read_typed_word(void) {
+    return fd_read_by_skeleton(BYTES(typed_word), BYTES("en"), BYTES("K"), 1, buffer, ROOM).status;
+}
+static uint32_t read_exponent(void) {
+    return fd_read_by_skeleton(BYTES(exponent), BYTES("en"), BYTES("E0"), 0, buffer, ROOM).status;
 }
 /* Kept formatters; parts that do not change on an error. */
 static fd_formatter kept(void) {
@@ -218,6 +206,9 @@ static uint32_t short_column(void) {
 int main(void) {
     memset(digits, '7', 200);
     sprintf(lines, "7\n%s\n%s\n", digits, digits);
+    sprintf(word, "%sT", digits);
+    sprintf(typed_word, "%sK", digits);
+    sprintf(exponent, "7.%sE3", digits + 1);
     for (int i = 0; i < 9; i++) calls[i] = (fd_call){.kind = FD_PAD_START, .position = 1};
     calls[8] = (fd_call){.kind = FD_ROUND, .position = -4, .increment = 25, .option = FD_HALF_EVEN};
     static const struct {
@@ -228,6 +219,8 @@ int main(void) {
                 {"fd_category", category, 1}, {"fd_category_of", category_by_number, 1}, {"fd_lines", column, 1},
                 {"fd_format_by_skeleton", format_by_skeleton, 1}, {"fd_convert, skeleton", convert_number, 1},
                 {"fd_read_by_skeleton", read_by_skeleton, 1}, {"fd_convert, read", convert_read, 1},
+                {"fd_read_by_skeleton, T", read_word, 1}, {"fd_read_by_skeleton, K", read_typed_word, 1},
+                {"fd_read_by_skeleton, E3", read_exponent, 1},
                 {"fd_convert, lenient", convert_lenient, 1}, {"17 digits by 25", by_25, 1},
                 {"17 digits by 25, E", by_25_scientific, 1}, {"16 digits by 25", by_25_before, 0},
                 {"17 digits by 5", by_5, 0}, {"16 digits in percent", by_percent, 0},

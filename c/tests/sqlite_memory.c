@@ -1,28 +1,16 @@
 /* Makes each allocation of SQLite, and of the library, fail in turn, alone and with all later ones: each statement has
- * its result, or an error of memory. Compile with -DSQLITE_CORE and examples/sqlite/fixdec.c, and link with
- * -lsqlite3 -Wl,--wrap=malloc,--wrap=realloc. */
+ * its result, or an error of memory, and nothing leaks. Compile with -DSQLITE_CORE and examples/sqlite/fixdec.c, and
+ * link with -lsqlite3 and as failing.h says. */
+#include "failing.h"
 #include <sqlite3.h>
 #include <stdio.h>
-#include <stdlib.h>
 #include <string.h>
 
 int sqlite3_fixdec_init(sqlite3 *db, char **error, const struct sqlite3_api_routines *api);
-void *__real_malloc(size_t n);
-void *__real_realloc(void *p, size_t n);
-
 static sqlite3_mem_methods heap;
-static long count, fail_at;
-static int and_later;
-
-static int fails(void) {
-    count++;
-    return fail_at && (and_later ? count >= fail_at : count == fail_at);
-}
 
 static void *sqlite_malloc(int n) { return fails() ? NULL : heap.xMalloc(n); }
 static void *sqlite_realloc(void *p, int n) { return fails() ? NULL : heap.xRealloc(p, n); }
-void *__wrap_malloc(size_t n) { return fails() ? NULL : __real_malloc(n); }
-void *__wrap_realloc(void *p, size_t n) { return fails() ? NULL : __real_realloc(p, n); }
 
 static const struct { const char *sql, *result; } rows[] = {
     {"SELECT fixdec('1.234,5', 'read:de', 'shift:2', 'round:-1:half-even:1', 'format:en')", "123,450.0"},
@@ -77,15 +65,20 @@ static int query(sqlite3 *db, const char *sql, char *result, size_t size) {
     return status;
 }
 
-/* Makes one statement with the allocation number `at` failing. 1: it has its result; 0: out of memory; -1: neither. */
+/* Makes one statement with the allocation number `at` failing. 1: it has its result; 0: out of memory; -1: neither, or
+ * memory leaks. */
 static int try_row(const char *encoding, int row, long at) {
     char result[500] = "";
     sqlite3 *db = NULL;
-    count = 0, fail_at = at;
+    count = live = 0, fail_at = at;
     int status = open_database(&db, encoding);
     if (status == SQLITE_OK) status = query(db, rows[row].sql, result, sizeof result);
     fail_at = 0;
-    sqlite3_close(db);
+    if (sqlite3_close(db) != SQLITE_OK || sqlite3_memory_used() != 0 || live != 0) {
+        fprintf(stderr, "%s\nallocation %ld: %lld bytes of SQLite and %ld blocks leak\n", rows[row].sql, at,
+                (long long)sqlite3_memory_used(), live);
+        return -1;
+    }
     if (status == SQLITE_NOMEM || status == SQLITE_INTERRUPT) return 0;
     if (status == SQLITE_DONE && strcmp(result, rows[row].result) == 0) return 1;
     fprintf(stderr, "%s\nallocation %ld: status %d, %s\n", rows[row].sql, at, status, result);

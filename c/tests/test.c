@@ -9,14 +9,14 @@ static void check_text(fd_result r, const uint8_t *buffer, size_t size, size_t r
 }
 
 /* fd_run, or fd_convert where there are forms. */
-static fd_result convert(const char *start, const fd_forms *forms, const fd_call *calls, size_t count, const char *texts,
-                         uint8_t *buffer, size_t room) {
+static fd_result convert(const char *start, const fd_forms *forms, const fd_call *calls, size_t count,
+                         const char *texts, uint8_t *buffer, size_t room) {
     if (forms) return fd_convert(BYTES(start), forms, calls, count, BYTES(texts), buffer, room);
     return fd_run(BYTES(start), calls, count, BYTES(texts), buffer, room);
 }
 
-static void at_all_sizes(const char *start, const fd_forms *forms, const fd_call *calls, size_t count, const char *texts,
-                         const char *text) {
+static void at_all_sizes(const char *start, const fd_forms *forms, const fd_call *calls, size_t count,
+                         const char *texts, const char *text) {
     size_t n = strlen(text);
     for (size_t room = 0; room < n + 9; room++) {
         uint8_t *buffer = malloc(room ? room : 1);
@@ -233,7 +233,8 @@ static void test_plural_rules(void) {
 
 /* The column at each capacity: the lines that fit, and from where to go on. */
 static void test_lines(void) {
-    static const char input[] = "250\n\n-7\nx\n12345678901234567890\n5", output[] = "2.50\n\n-0.07\n\n123456789012345678.90\n0.05\n";
+    static const char input[] = "250\n\n-7\nx\n12345678901234567890\n5";
+    static const char output[] = "2.50\n\n-0.07\n\n123456789012345678.90\n0.05\n";
     static const size_t ends[7] = {0, 5, 6, 12, 13, 35, 40}, reads[7] = {0, 4, 5, 8, 10, 31, 32};
     static const size_t failed[7] = {0, 0, 1, 1, 2, 2, 2};
     fd_call shift = {.kind = FD_SHIFT, .position = -2};
@@ -446,7 +447,7 @@ static void test_read_number(void) {
         {"12,5\xc2\xa0%", "fr", OPTIONS(.style = FD_PERCENT, .scale = 2), 0, FD_OK, "0.125"},
         {"EUR 1.234,5", "de", OPTIONS(MONEY("EUR")), 1, FD_OK, "1234.5"},
         {"EUR 1.234,5", "de", OPTIONS(MONEY("EUR")), 0, FD_SYNTAX, ""},
-        {"1", "it", OPTIONS(.notation = FD_COMPACT_LONG), 1, FD_UNREADABLE_FORMAT, ""},
+        {"1", "vec", OPTIONS(.notation = FD_COMPACT_SHORT), 1, FD_UNREADABLE_FORMAT, ""},
         {"mille", "fr", OPTIONS(.notation = FD_COMPACT_LONG), 0, FD_OK, "1000"},
         {"-1,25\xc2\xa0Mio.", "de", OPTIONS(.notation = FD_COMPACT_SHORT), 0, FD_OK, "-1250000"},
         {"1250 Tausend", "de", OPTIONS(.notation = FD_COMPACT_LONG), 0, FD_SYNTAX, ""},
@@ -545,7 +546,8 @@ static void test_skeletons_of_options(void) {
         {OPTIONS(.style = FD_PERCENT, .scale = 2, FRACTION(0, 0), .rounding_mode = FD_HALF_EVEN), "%x100 ."},
         {OPTIONS(.scale = -12000, FRACTION(0, 6), .rounding_mode = FD_HALF_EVEN), "scale/1e-12000"},
         {OPTIONS(.notation = FD_COMPACT_SHORT, .rounding_mode = FD_HALF_EVEN), "K"}};
-    fd_number_options unsigned_amounts = OPTIONS(MONEY("USD"), .currency_sign = FD_ACCOUNTING, .sign_display = FD_NEVER);
+    fd_number_options unsigned_amounts =
+        OPTIONS(MONEY("USD"), .currency_sign = FD_ACCOUNTING, .sign_display = FD_NEVER);
     CHECK(fd_skeleton(&unsigned_amounts, (uint8_t[64]){0}, 64).status == FD_NO_SKELETON);
     for (size_t i = 0; i < sizeof rows / sizeof *rows; i++) {
         uint8_t buffer[64], first[64], second[64];
@@ -560,7 +562,8 @@ static void test_skeletons_of_options(void) {
     }
 }
 
-static fd_result format_by_skeleton(const char *text, const char *tag, const char *skeleton, uint8_t *buffer, size_t room) {
+static fd_result format_by_skeleton(const char *text, const char *tag, const char *skeleton, uint8_t *buffer,
+                                    size_t room) {
     return fd_format_by_skeleton(BYTES(text), BYTES(tag), BYTES(skeleton), buffer, room);
 }
 
@@ -585,7 +588,8 @@ static void test_format_by_skeleton(void) {
         {"999999", "hi", "currency/JPY", "JP¥9,99,999"},
         {"5300000", "uk", "percent", "5\xc2\xa0" "300\xc2\xa0" "000%"},
         {"-2.5", "uk", "K", "-2,5"},
-        {"1000000000000000", "pt-PT", "currency/USD", "1\xc2\xa0" "000\xc2\xa0" "000\xc2\xa0" "000\xc2\xa0" "000\xc2\xa0" "000,00\xc2\xa0" "US$"},
+        {"1000000000000000", "pt-PT", "currency/USD",
+         "1\xc2\xa0" "000\xc2\xa0" "000\xc2\xa0" "000\xc2\xa0" "000\xc2\xa0" "000,00\xc2\xa0" "US$"},
         {"5300000", "he", "currency/JPY", "\xe2\x80\x8f" "5,300,000\xc2\xa0" "\xe2\x80\x8f" "¥"},
         {"-1234.5", "es", "KK", "-1,2 mil"},
         {"999999", "fr", "currency/INR", "999\xe2\x80\xaf" "999,00\xc2\xa0" "₹"},
@@ -596,7 +600,8 @@ static void test_format_by_skeleton(void) {
         {"12.345", "en", "precision-increment/0.05 rounding-mode-half-up", "12.35"},
         {"12.345", "en", ".0 +? unit-width-narrow numbering-system/beng", "+১২.৩"},
         {"1234567", "en", "+- K", "1.2M"},
-        {"123456789012345.678", "en", "currency/SEK rounding-mode-half-up precision-increment/50", "SEK\xc2\xa0" "123,456,789,012,350"},
+        {"123456789012345.678", "en", "currency/SEK rounding-mode-half-up precision-increment/50",
+         "SEK\xc2\xa0" "123,456,789,012,350"},
         {"-3.5", "en", "%x100 sign-never numbering-system/arabext", "۳۵۰٪"},
         {"999999", "en", ".0# K currency/CLF", "CLF\xc2\xa0" "1.0M"},
         {"123456789012345.678", "en", "@@@/w sign-accounting-always rounding-mode-ceiling", "+124,000,000,000,000"},
@@ -614,8 +619,9 @@ static void test_format_by_skeleton(void) {
             uint8_t *buffer = malloc(room ? room : 1);
             memset(buffer, 0xA5, room ? room : 1);
             for (int by_form = 0; by_form < 2; by_form++) {
-                fd_result r = by_form ? convert_number(rows[i][0], rows[i][1], rows[i][2], FD_NONE(fd_call), 0, buffer, room)
-                                      : format_by_skeleton(rows[i][0], rows[i][1], rows[i][2], buffer, room);
+                fd_result r =
+                    by_form ? convert_number(rows[i][0], rows[i][1], rows[i][2], FD_NONE(fd_call), 0, buffer, room)
+                            : format_by_skeleton(rows[i][0], rows[i][1], rows[i][2], buffer, room);
                 check_text(r, buffer, room, room, rows[i][3]);
             }
             free(buffer);
@@ -677,8 +683,9 @@ static void test_read_by_skeleton(void) {
         {"1200", "es", "K", 0, FD_SYNTAX, NULL},
         {"1200", "es", "K", 1, FD_OK, "1200"},
         {"x", "vec", "K", 1, FD_UNREADABLE_FORMAT, NULL},
-        {"mille", "it", "KK", 1, FD_UNREADABLE_FORMAT, NULL},
         {"mille", "fr", "KK", 0, FD_OK, "1000"},
+        {"-mille", "fr", "KK", 0, FD_SYNTAX, NULL},
+        {"-mille", "it", "KK", 0, FD_OK, "-1000"},
         {"x", "xx", "K", 0, FD_UNKNOWN_LOCALE, NULL},
         {"x", "xx", "percent/w", 0, FD_SKELETON_SYNTAX, NULL}};
     for (size_t i = 0; i < sizeof rows / sizeof *rows; i++) {
@@ -711,10 +718,9 @@ static void test_skeleton_forms(void) {
     CHECK(fd_convert(B("x"), &forms, FD_NONE(fd_call), 0, B("deK"), b, 64).status == FD_SKELETON_SYNTAX);
     forms.format = (fd_form){.start = 3, .count = 1, .skeleton_start = 2, .skeleton_count = 1};
     CHECK(fd_convert(B("x"), &forms, FD_NONE(fd_call), 0, B("deK"), b, 64).status == FD_UNKNOWN_LOCALE);
-    forms.read.skeleton_start = 2, forms.read.skeleton_count = 2;
-    CHECK(fd_convert(B("x"), &forms, FD_NONE(fd_call), 0, B("itKK"), b, 64).status == FD_UNREADABLE_FORMAT);
-    forms.read.skeleton_count = 1;
-    forms.read.skeleton_start = 3;
+    forms.read = (fd_form){.count = 3, .skeleton_start = 3, .skeleton_count = 1};
+    CHECK(fd_convert(B("x"), &forms, FD_NONE(fd_call), 0, B("vecK"), b, 64).status == FD_UNREADABLE_FORMAT);
+    forms.read.count = 2;
     CHECK(fd_convert(B("x"), &forms, FD_NONE(fd_call), 0, B("deK"), b, 64).status == FD_SKELETON_SYNTAX);
 }
 

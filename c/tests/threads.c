@@ -31,7 +31,8 @@ int main(void) {
     pthread_t threads[4];
     size_t bad = 0;
     german = fd_formatter_by_skeleton((const uint8_t *)"de", 2, (const uint8_t *)".000", 4).formatter;
-    for (size_t i = 0; i < 4; i++) pthread_create(&threads[i], 0, work, (void *)(i + 1));
+    for (size_t i = 0; i < 4; i++)
+        if (pthread_create(&threads[i], 0, work, (void *)(i + 1)) != 0) return puts("a thread does not start"), 1;
     for (int i = 0; i < 4; i++) {
         void *found;
         pthread_join(threads[i], &found);

@@ -294,7 +294,8 @@ def options_of(arguments):
     options.add_argument("--scheduler", help="the address of a Dask scheduler, as tcp://host:8786")
     options.add_argument("--block", type=block_size, default=16 << 20, help="bytes of a block, by default 16 MiB")
     options.add_argument("--program", default="fixdec_lines")
-    options.add_argument("--out", type=empty_folder, metavar="FOLDER", help="the workers write parts of the output there")
+    options.add_argument("--out", type=empty_folder, metavar="FOLDER",
+                         help="the workers write parts of the output there")
     options.add_argument("files", nargs="+", metavar="FILE")
     split = arguments.index("--") if "--" in arguments else len(arguments)
     found = options.parse_args(arguments[:split])

@@ -2,8 +2,8 @@
  * the words is an error.
  *
  * What the library makes of the words, or of a locale and a skeleton or options, is kept for the statement (fn_extra)
- * until they change. An error of the server jumps out of a function: the library keeps nothing between its calls that it could
- * lose. Each text is passed to the library in UTF-8, whatever the encoding of the database is. */
+ * until they change. An error of the server jumps out of a function: the library keeps nothing between its calls that
+ * it could lose. Each text is passed to the library in UTF-8, whatever the encoding of the database is. */
 #include "postgres.h"
 
 #include "fmgr.h"
@@ -53,7 +53,8 @@ fail(uint32_t status, size_t at, size_t calls)
 pg_attribute_noreturn() static void
 fail_word(uint32_t status, int index, const char *hint)
 {
-    ereport(ERROR, errcode(code_of(status)), errmsg_internal(status == FD_UNKNOWN_CALL ? "no such call" : "unknown locale"),
+    ereport(ERROR, errcode(code_of(status)),
+            errmsg_internal(status == FD_UNKNOWN_CALL ? "no such call" : "unknown locale"),
             errdetail("It is word %d.", index + 1), hint ? errhint("%s", hint) : 0);
 }
 

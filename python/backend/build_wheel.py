@@ -79,7 +79,8 @@ def make(folder, path, tag):
                 for file in ("__init__.py", "__init__.pyi", "_errors.py", "_options.py", "py.typed")}
     contents[f"{NAME}/{os.path.basename(path)}"] = read(path)
     contents[f"{info}/METADATA"] = metadata().encode()
-    contents[f"{info}/WHEEL"] = f"Wheel-Version: 1.0\nGenerator: build_wheel\nRoot-Is-Purelib: false\nTag: {tag}\n".encode()
+    contents[f"{info}/WHEEL"] = (
+        f"Wheel-Version: 1.0\nGenerator: build_wheel\nRoot-Is-Purelib: false\nTag: {tag}\n".encode())
     if os.path.exists(LICENSE):
         contents[f"{info}/LICENSE"] = read(LICENSE)
     contents[f"{info}/RECORD"] = record(contents, info).encode()

@@ -1058,7 +1058,8 @@ static PyObject *padded(Decimal *self, const Padding *padding) {
     if (padding->alignment == '<') before = 0;
     if (padding->alignment == '^') before = more / 2;
     PyObject *fill = PyUnicode_FromOrdinal((int)padding->fill), *text = fill ? decimal_str(self) : NULL, *made = NULL;
-    PyObject *parts[] = {text ? PySequence_Repeat(fill, before) : NULL, text ? PyUnicode_Substring(text, 0, sign) : NULL,
+    PyObject *parts[] = {text ? PySequence_Repeat(fill, before) : NULL,
+                         text ? PyUnicode_Substring(text, 0, sign) : NULL,
                          text ? PyUnicode_Substring(text, sign, count) : NULL,
                          text ? PySequence_Repeat(fill, more - before) : NULL};
     if (parts[0] && parts[1] && parts[2] && parts[3])
@@ -1645,7 +1646,8 @@ PyDoc_STRVAR(number_format_range_text, "format_range($self, start, end, /)\n--\n
 ">>> NumberFormat('en', style='unit', unit='day', unit_display='long').format_range(1, 2)\n'1–2 days'\n"
 ">>> NumberFormat('en').format_range(1, '1.0001')\n'~1'\n");
 PyDoc_STRVAR(number_format_range_parts_text, "format_range_to_parts($self, start, end, /)\n--\n\n"
-"Returns the parts of the text of a range in order, with the types and the sources of formatRangeToParts in ECMA-402.\n\n"
+"Returns the parts of the text of a range in order, with the types and the sources of formatRangeToParts in "
+"ECMA-402.\n\n"
 ">>> [(part['value'], part['source']) for part in NumberFormat('en').format_range_to_parts(1, 2)]\n"
 "[('1', 'startRange'), ('–', 'shared'), ('2', 'endRange')]\n");
 PyDoc_STRVAR(number_format_read_text, "read($self, /, text, lenient=False)\n--\n\n"

@@ -285,8 +285,9 @@ def test_class():
     raises(DecimalError, lambda: Decimal.read("1", "tlh"), "unknown locale")
     raises(DecimalError, lambda: Decimal.read("\ud800", "de"), "syntax")
     raises(DecimalError, lambda: Decimal.read("1", "de", skeleton="percent/w"), "skeleton syntax")
-    raises(DecimalError, lambda: Decimal.read("mille", "it", skeleton="KK"), "unreadable format")
+    raises(DecimalError, lambda: Decimal.read("1", "vec", skeleton="K"), "unreadable format")
     check(str(Decimal.read("mille", "fr", skeleton="KK")) == "1000", "a word without a number")
+    check(str(Decimal.read("-mille", "it", skeleton="KK")) == "-1000", "such a word with a sign")
     raises(DecimalError, lambda: Decimal.read("EUR 1", "de", skeleton="currency/EUR"), "syntax")
     raises(DecimalError, lambda: Decimal.read("1250K", "en", skeleton="K"), "syntax")
     raises(TypeError, lambda: Decimal.read("1", "de", skeleton="percent", style="percent"))
@@ -470,8 +471,8 @@ def test_options():
     check(column(["1234.5"], format="de", **money) == ["1.234,50\xa0€"], "a column of amounts")
     check(number_skeleton(rounding_mode="half-even") == number_skeleton(rounding_mode="halfEven"), "words with hyphens")
     check(number_skeleton(rounding_mode="halfEven", **money) == "currency/EUR", "a skeleton")
-    check(number_skeleton(notation="compact", sign_display="negative") == "compact-short rounding-mode-half-up sign-negative",
-          "the words of ICU's normal form")
+    skeleton = number_skeleton(notation="compact", sign_display="negative")
+    check(skeleton == "compact-short rounding-mode-half-up sign-negative", "the words of ICU's normal form")
     check(Decimal.read("1.234,50\xa0€", "de", **money) == Decimal("1234.50"), "an amount is read")
     check(Decimal.read("EUR 5", "de", lenient=True, **money) == Decimal("5"), "an amount is read leniently")
     unsigned = {"style": "currency", "currency": "USD", "currency_sign": "accounting", "sign_display": "never"}
@@ -654,7 +655,8 @@ RANGES = [
         ("shared", "approximatelySign|~|currency|$|integer|1|decimal|.|fraction|00"),
     ]),
     ("he", {"style": "currency", "currency": "ILS"}, "-5", "3", [
-        ("startRange", "literal|\u200f\u200e|minusSign|-|integer|5|decimal|.|fraction|00|literal|\xa0\u200f|currency|₪"),
+        ("startRange", "literal|\u200f\u200e|minusSign|-"
+                       "|integer|5|decimal|.|fraction|00|literal|\xa0\u200f|currency|₪"),
         ("shared", "literal| – \u200f"),
         ("endRange", "integer|3|decimal|.|fraction|00|literal|\xa0\u200f|currency|₪"),
     ]),
@@ -701,7 +703,8 @@ def test_ranges():
     for start, end in ((3, Decimal("5")), (decimal.Decimal("3.00"), "5.00"), ("3", 5)):
         check(euros.format_range(start, end) == "3,00–5,00\xa0€", start, end)
     long = "7" * 300
-    check(euros.format_range(long, "8" * 300) == euros.format(long)[:-2] + "–" + euros.format("8" * 300), "long numbers")
+    want = euros.format(long)[:-2] + "–" + euros.format("8" * 300)
+    check(euros.format_range(long, "8" * 300) == want, "long numbers")
     check(len(euros.format_range_to_parts(long, "8" * 300)) == 2 * 201 + 3, "many parts")
     for locale, start, end, want in (
         ("ru", "one", "many", "many"), ("ru-RU", "many", "one", "one"), ("en", "one", "other", "other"),
@@ -744,6 +747,14 @@ WRONG_UNIT_OPTIONS = [
     {"style": "currency", "currency": "US$", "currency_display": "name"},
     {"style": "unit", "unit": "meter", "currency": "US"}, {"style": "unit", "unit": "meter", "currency_sign": "foo"},
 ]
+# Options that it takes, with the text of -5 and of the range from 1 to 2 in `en`.
+RIGHT_UNIT_OPTIONS = [
+    ({"style": "unit", "unit": "meter-per-meter"}, "-5 m/m", "1–2 m/m"),
+    ({"style": "unit", "unit": "percent-per-percent"}, "-5%", "1–2%/%"),
+    ({"style": "unit", "unit": "mile-scandinavian-per-fluid-ounce"}, "-5 smi/fl oz", "1–2 smi/fl oz"),
+    ({"style": "unit", "unit": "meter", "currency_sign": "accounting"}, "-5 m", "1–2 m"),
+    ({"style": "currency", "currency": "ZZZ", "currency_display": "name"}, "-5.00 ZZZ", "1.00–2.00 ZZZ"),
+]
 
 
 def test_units():
@@ -767,6 +778,10 @@ def test_units():
     for options in WRONG_UNIT_OPTIONS:
         raises(ValueError, lambda: NumberFormat("en", **options))
     raises(TypeError, lambda: NumberFormat("en", style="unit", unit=None))
+    for options, number, numbers in RIGHT_UNIT_OPTIONS:
+        made = NumberFormat("en", **options)
+        found = made.format(-5), made.format_range(1, 2)
+        check(found == (number, numbers), options, found, number, numbers)
     check(NumberFormat("en", **speed).read("5 kilometers per hour") == Decimal("5"), "a unit is read")
     days = NumberFormat("ar", style="unit", unit="day", unit_display="long")
     raises(DecimalError, lambda: days.read("5"), "unreadable format")

@@ -33,8 +33,8 @@ const NONZERO: [char; 9] = ['1', '2', '3', '4', '5', '6', '7', '8', '9'];
 ///
 /// `{}` writes the text, with the width, the fill and the alignment of the format; the default is to the right, as for
 /// numbers. `{:+}` writes a plus if the text has no sign. `{:.2}` rounds to two fraction digits, ties to even. The
-/// rounding fails with [`fmt::Error`] if its result is 10^32768 or more, or if more than 32,768 fraction digits are asked
-/// for.
+/// rounding fails with [`fmt::Error`] if its result is 10^32768 or more, or if more than 32,768 fraction digits are
+/// asked for.
 ///
 /// ```
 /// use fixed_decimal_proved::Decimal;
@@ -101,7 +101,8 @@ impl Decimal {
         &self.text
     }
 
-    /// The text as a locale writes it. `locale` is a tag as `de-CH` or `hi-u-nu-deva`, or a shell's name as `de_CH.UTF-8`.
+    /// The text as a locale writes it. `locale` is a tag as `de-CH` or `hi-u-nu-deva`, or a shell's name as
+    /// `de_CH.UTF-8`.
     ///
     /// # Errors
     ///
@@ -157,7 +158,7 @@ impl Decimal {
     /// assert_eq!(value.to_string(), "-1234.50");
     /// assert_eq!(Decimal::read_number("es", "K", "1,2\u{a0}mil")?.to_string(), "1200");
     /// assert_eq!(Decimal::read_number("fr", "KK", "mille")?.to_string(), "1000");
-    /// assert_eq!(Decimal::read_number("it", "KK", "mille"), Err(NumberReadError::Unreadable));
+    /// assert_eq!(Decimal::read_number("vec", "K", "1"), Err(NumberReadError::Unreadable)); // of 1 and of 1000
     /// # Ok::<(), NumberReadError>(())
     /// ```
     pub fn read_number(locale: &str, skeleton: &str, text: &str) -> Result<Self, NumberReadError> {

@@ -458,9 +458,18 @@ fn bytes(room: usize, write: impl Fn(*mut u8, usize) -> FdResult) -> Result<Vec<
 
 #[cfg(test)]
 mod tests {
+    use super::{FdCall, FdForm, FdFormatter, FdForms, FdMade, FdPart, FdParted, FdResult, FdUnits};
+    use crate::number_options::Options;
+    use std::mem::size_of;
+
     #[test]
     fn structs_are_those_of_the_library() {
         // SAFETY: the function takes nothing.
         assert_eq!(unsafe { super::fd_version() }, 8);
+        // The sizes that gcc gives the structs of this version.
+        assert_eq!([size_of::<FdFormatter>(), size_of::<FdMade>(), size_of::<Options>()], [152, 168, 48]);
+        assert_eq!([size_of::<FdForms>(), size_of::<FdForm>(), size_of::<FdCall>()], [96, 48, 24]);
+        assert_eq!([size_of::<FdPart>(), size_of::<FdParted>()], [24, 32]);
+        assert_eq!([size_of::<FdResult>(), size_of::<FdUnits>()], [24, 8]);
     }
 }

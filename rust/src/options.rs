@@ -103,8 +103,8 @@ pub enum PluralCategory {
 }
 
 impl PluralCategory {
-    /// The category of a range of numbers in a locale, by those of its first and of its last number. Cardinal and ordinal
-    /// numbers have the same ones.
+    /// The category of a range of numbers in a locale, by those of its first and of its last number. Cardinal and
+    /// ordinal numbers have the same ones.
     ///
     /// # Errors
     ///

@@ -3,10 +3,10 @@ use fixed_decimal_proved::SignedRoundingMode::{Ceil, Floor, HalfCeil, HalfFloor}
 use fixed_decimal_proved::UnsignedRoundingMode::{Expand, HalfEven, HalfExpand, HalfTrunc, Trunc};
 use fixed_decimal_proved::{
     CompactLength, CurrencyCode, CurrencyDisplay, CurrencySign, CurrencyUsage, Decimal, DecimalSeparatorDisplay,
-    DigitOptionsError, FormattedNumber, GroupingStrategy, IntegerError, LimitError, NameError, NumberFormat, NumberFormatError,
-    NumberParts, NumberReadError, NumberingSystem, Options, OverlapError, ParseError, PartKind, PluralCategory,
-    RangeParts, RangeSource, ReadError, RoundingIncrement, RoundingPriority, RulesError, Sign, SignDisplay, SignedRoundingMode,
-    TrailingZeroDisplay, Unit, UnitDisplay, UnknownLocale,
+    DigitOptionsError, FormattedNumber, GroupingStrategy, IntegerError, LimitError, NameError, NumberFormat,
+    NumberFormatError, NumberParts, NumberReadError, NumberingSystem, Options, OverlapError, ParseError, PartKind,
+    PluralCategory, RangeParts, RangeSource, ReadError, RoundingIncrement, RoundingPriority, RulesError, Sign,
+    SignDisplay, SignedRoundingMode, TrailingZeroDisplay, Unit, UnitDisplay, UnknownLocale,
 };
 use std::cmp::Ordering;
 use std::error::Error;
@@ -18,7 +18,8 @@ fn decimal(text: &str) -> Decimal {
 #[test]
 fn nine_modes() {
     let modes: [SignedRoundingMode; 9] = [
-        Ceil, Expand.into(), Floor, Trunc.into(), HalfCeil, HalfExpand.into(), HalfFloor, HalfTrunc.into(), HalfEven.into(),
+        Ceil, Expand.into(), Floor, Trunc.into(),
+        HalfCeil, HalfExpand.into(), HalfFloor, HalfTrunc.into(), HalfEven.into(),
     ];
     for (text, results) in [
         ("1.8", "2 2 1 1 2 2 2 2 2"),
@@ -99,7 +100,12 @@ fn concatenation() {
 #[test]
 fn signs() {
     use SignDisplay::{Always, Auto, ExceptZero, Negative, Never};
-    for (text, results) in [("-0", "-0 -0 0 0 0"), ("+0", "0 +0 0 0 0"), ("-5", "-5 -5 5 -5 -5"), ("5", "5 +5 5 +5 5")] {
+    for (text, results) in [
+        ("-0", "-0 -0 0 0 0"),
+        ("+0", "0 +0 0 0 0"),
+        ("-5", "-5 -5 5 -5 -5"),
+        ("5", "5 +5 5 +5 5"),
+    ] {
         for (display, result) in [Auto, Always, Never, ExceptZero, Negative].into_iter().zip(results.split(' ')) {
             assert_eq!(decimal(text).with_sign_display(display), decimal(result), "{text} {display:?}");
         }
@@ -327,7 +333,12 @@ fn number_formats() {
         ("fr", unit("hectare").with_unit_display(UnitDisplay::Narrow), "20", "20ha"),
         ("pl", unit("day").with_unit_display(UnitDisplay::Long), "3", "3 dni"),
         ("ar", unit("hour-per-byte").with_unit_display(UnitDisplay::Long), "-1", "ساعة لكل بايت"),
-        ("fr", unit("gallon").with_unit_display(UnitDisplay::Long).with_engineering_notation(), "1.01", "1,01E0 gallon"),
+        (
+            "fr",
+            unit("gallon").with_unit_display(UnitDisplay::Long).with_engineering_notation(),
+            "1.01",
+            "1,01E0 gallon",
+        ),
     ] {
         let format = NumberFormat::new(locale, &options).unwrap();
         assert_eq!(format.format(&decimal(text)).unwrap().as_str(), written, "{locale} {options:?}");
@@ -430,7 +441,8 @@ fn ranges() {
     let about = euros.range_parts(&decimal("1"), &decimal("1")).unwrap();
     assert_eq!(about.iter().next(), Some((PartKind::ApproximatelySign, Shared, "≈")));
     let long = decimal(&"7".repeat(300));
-    assert_eq!(euros.range_parts(&long, &long).unwrap().as_str().len(), euros.format(&long).unwrap().as_str().len() + 3);
+    let parts = euros.range_parts(&long, &long).unwrap();
+    assert_eq!(parts.as_str().len(), euros.format(&long).unwrap().as_str().len() + 3);
     let scaled = NumberFormat::by_skeleton("en", "scale/100").unwrap();
     let (one, greatest) = (decimal("1"), decimal("1e32767"));
     assert_eq!(scaled.format_range(&one, &greatest).unwrap_err(), LimitError);
@@ -476,7 +488,9 @@ fn errors_of_number_formats() {
     let words = NumberFormat::new("fr", &Options::compact(CompactLength::Long)).unwrap();
     assert_eq!(words.read("mille"), Ok(decimal("1000")));
     let words = NumberFormat::new("it", &Options::compact(CompactLength::Long)).unwrap();
-    assert_eq!(words.read("mille"), Err(NumberReadError::Unreadable));
+    assert_eq!(words.read("-mille"), Ok(decimal("-1000")));
+    let words = NumberFormat::new("vec", &Options::compact(CompactLength::Short)).unwrap();
+    assert_eq!(words.read("1"), Err(NumberReadError::Unreadable));
     assert_eq!(scaled.read("5"), Err(NumberReadError::Text(ParseError::Syntax)));
     assert_eq!(scaled.read_lenient("5"), Ok(decimal("0.05")));
     assert_eq!(scaled.read(&format!("{}%", "1".repeat(32769))), Err(NumberReadError::Text(ParseError::Limit)));

@@ -1,9 +1,10 @@
-"""Compares what the tables of numbers say with the files that their data were made from."""
+"""Compares what the tables of numbers say with the files that their data were made from, or those of this folder."""
 import os
 import re
 import sys
 
-from number_tables import COUNTS, EXPONENTS, PERCENT_SIGNS, PIECES, SEPARATORS, STYLES, canonical, is_spaced
+from number_tables import (COUNTS, EXPONENTS, PERCENT_SIGNS, PERMILLE_SIGNS, PIECES, SEPARATORS, STYLES, canonical,
+                           is_spaced)
 from table_text import SOURCES, path, rows
 
 NAMES = {value: key for names in (PIECES, COUNTS) for key, value in names.items()}
@@ -48,8 +49,9 @@ class Tables:
         self.overrides = [(int(row[2]), separators[row[5]], separators[row[8]])
                           for row in table(formats, "CURRENCY_OVERRIDES")]
         self.money = [self.money_of(row, separators) for row in table(formats, "MONEY_FORMATS")]
-        signs = [{value: key for key, value in names.items()} for names in (EXPONENTS, PERCENT_SIGNS)]
-        self.signs = [(signs[0][row[2]], signs[1][row[5]]) for row in table(formats, "NUMBER_SIGNS")]
+        signs = [{value: key for key, value in names.items()} for names in (EXPONENTS, PERCENT_SIGNS, PERMILLE_SIGNS)]
+        self.signs = [tuple(names[it] for names, it in zip(signs, row[2::3], strict=True))
+                      for row in table(formats, "NUMBER_SIGNS")]
         self.root = [int(it) for it in re.findall(r": (\d+)", re.search(r"ROOT_FORMATS.*?\{(.*?)\}", formats, re.S)[1])]
         self.locales = {tag_of(row[0]): [int(it) for it in row[1:]] for row in table(formats, "LOCALE_FORMATS")}
         others = [(tag_of(row[0]), self.options(row[1:])) for row in table(formats, "FORMATS_BY_SYSTEM")]
@@ -138,6 +140,13 @@ class Tables:
 # ---- The files.
 
 
+def columns(name, folder):
+    """The names of the columns of a file, which are in its last comment."""
+    with open(os.path.join(folder, name), encoding="utf-8") as file:
+        comment = [line for line in file if line.startswith("#")][-1]
+    return re.split("\t|, ", comment.strip())
+
+
 class Files:
     """What the files say, by the look-ups that their README describes."""
 
@@ -149,6 +158,10 @@ class Files:
         self.overrides, self.region = keyed("currency_overrides.tsv", 2), keyed("currency_locale_overrides.tsv", 1)
         self.symbols, self.digits = keyed("currency_symbols.tsv", 2), keyed("currency_digits.tsv", 1)
         self.signs, self.units = keyed("scientific.tsv", 2), keyed("percent_unit.tsv", 2)
+        names = columns("scientific.tsv", folder)
+        # The files that the data were made from have no permille sign.
+        signs = ["percent sign", "permille sign"][:1 + ("permille sign" in names)]
+        self.sign_columns = [0, *(names.index(it) - 2 for it in signs)]
         self.compact = {}
         for name in ("compact.tsv", "compact_currency.tsv"):
             for tag, system, style, magnitude, *pattern in rows(name, folder):
@@ -202,7 +215,8 @@ def compare(folder):
             formats = tables.formats(tag, system)
             same(tables.patterns[formats[0]], files.in_system(files.percent, tag, system), tag, system, "percent")
             signs = files.in_system(files.signs, tag, system)
-            same(tables.signs[formats[3]], (signs[0], signs[4]), tag, system, "signs")
+            same(tables.signs[formats[3]][:len(files.sign_columns)], tuple(signs[it] for it in files.sign_columns), tag,
+                 system, "signs")
             for accounting in (False, True):
                 for code in ("XXX", "EUR"):
                     same(tables.currency(tag, system, code, accounting), files.currency(tag, system, code, accounting),

@@ -3,8 +3,8 @@
 
 `tools/locales/make_tables.py` writes the files, `tools/locales/make_tables.py --check` fails if they would change. With
 a folder after `--check` it also compares what the tables say of every tag and numbering system with the rows of the
-files there, which are those that the data were made from. A locale is listed unless it has the same data as the longest
-listed tag before one of its hyphens.
+files there, which are those that the data were made from, or those of tools/locales. A locale is listed unless it has
+the same data as the longest listed tag before one of its hyphens.
 """
 import re
 import sys

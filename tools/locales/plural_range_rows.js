@@ -1,10 +1,11 @@
 #!/usr/bin/env node
-// Prints rows of crates/cli_vectors/rows for the plural categories of ranges: `node tools/locales/plural_range_rows.js`.
+// Prints rows of crates/cli_vectors/rows for the plural categories of ranges:
+// `node tools/locales/plural_range_rows.js`.
 //
 // The categories are those of node's Intl.PluralRules. For each language of plural_ranges.tsv there is a row for each
 // two categories that the file lists, and a row for two that it does not list; then there are rows of tags of other
-// forms, of languages that the file does not have, and of ordinal numbers. The script fails if node has another category
-// than the file.
+// forms, of languages that the file does not have, and of ordinal numbers. The script fails if node has another
+// category than the file.
 //
 // The rows of the repository were made by node 20.20.2, which has ICU 78.2 and CLDR 48.
 'use strict';
@@ -12,7 +13,8 @@ const fs = require('fs');
 const path = require('path');
 
 const NUMBERS = [
-  ...Array.from({length: 40}, (_, index) => index), 0.1, 0.5, 1.5, 2.5, 10.5, 100, 101, 102, 103, 105, 111, 1000, 1000000,
+  ...Array.from({length: 40}, (_, index) => index),
+  0.1, 0.5, 1.5, 2.5, 10.5, 100, 101, 102, 103, 105, 111, 1000, 1000000,
 ];
 const OTHERS = ['af', 'en', 'es', 'eu', 'fi', 'he', 'id', 'ja', 'ko', 'lb', 'mk', 'mt', 'nb', 'ur', 'vi', 'zh'];
 const TAGS = ['ru-RU', 'sr-Latn-ME', 'pt-PT', 'fr-CA', 'ar-EG-u-nu-latn', 'zh-Hant-TW', 'tl', 'sh', 'mo', 'iw'];

@@ -5,15 +5,15 @@
     python3 tools/numbers/make_rows.py --units UNITS NAMES > tests/rows/node_units.tsv
     python3 tools/numbers/make_rows.py --parts PARTS > tests/rows/node_parts.tsv
 
-TEXTS has rows of a locale, options as JSON by the names of ECMA-402, a number and its text; ERRORS has a locale, options
-and the class of the error; both are made with node. CURRENCIES has rows of a code and its number of fraction digits.
-Rows of errors are those of each distinct choice of digits. Rows of texts are those of
-`en`, style decimal, not compact; of all others those that are the first with a locale, with a value of an option in a style
-and a notation, with a currency and its display, or with what is written around and between digits, a symbol of a currency
-being any. UNITS and NAMES have texts of units and of amounts with names of currencies; of these rows are written that
-are the first with a locale and a width, with a unit and its width, after `per` too, with a currency, or with a value of
-another option in a style and a notation. PARTS has parts instead of texts, as JSON: a type, a
-text and, in rows with a second number, the source in the range. Of these rows are written that are the first with types
+TEXTS has rows of a locale, options as JSON by the names of ECMA-402, a number and its text; ERRORS has a locale,
+options and the class of the error; both are made with node. CURRENCIES has rows of a code and its number of fraction
+digits. Rows of errors are those of each distinct choice of digits. Rows of texts are those of `en`, style decimal, not
+compact; of all others those that are the first with a locale, with a value of an option in a style and a notation, with
+a currency and its display, or with what is written around and between digits, a symbol of a currency being any. UNITS
+and NAMES have texts of units and of amounts with names of currencies; of these rows are written that are the first with
+a locale and a width, with a unit and its width, after `per` too, with a currency, or with a value of another option in
+a style and a notation. PARTS has parts instead of texts, as JSON: a type, a text and, in rows with a second number, the
+source in the range. Of these rows are written that are the first with types
 and sources in an order, in a style.
 """
 import collections
@@ -38,7 +38,8 @@ def rows(path):
 def words(options, names):
     values = {name: options[name] for name in names if name in options}
     shown = {True: "always", "true": "always", False: "false"}
-    return " ".join(f"{name}={shown.get(value, value) if name == 'useGrouping' else value}" for name, value in values.items())
+    return " ".join(f"{name}={shown.get(value, value) if name == 'useGrouping' else value}"
+                    for name, value in values.items())
 
 
 def style_of(options, currencies):
@@ -189,7 +190,7 @@ def main(texts_path, errors_path, currencies_path):
 if sys.argv[1] == "--units":
     units(*sys.argv[2:])
 elif sys.argv[1] == "--parts":
-    print("# Made by `python3 tools/numbers/make_rows.py --parts PARTS`, of parts of node 20.20.2 with CLDR 48, under the "
-          "license in tools/locales/LICENSE.\n\n# Parts.\n" + "\n".join(cover_parts(sys.argv[2])))
+    print("# Made by `python3 tools/numbers/make_rows.py --parts PARTS`, of parts of node 20.20.2 with CLDR 48, "
+          "under the license in tools/locales/LICENSE.\n\n# Parts.\n" + "\n".join(cover_parts(sys.argv[2])))
 else:
     main(*sys.argv[1:])

@@ -3,10 +3,10 @@
 
     python3 tools/numbers/skeleton_rows.py SKELETONS MODEL UNITS > tests/rows/icu_skeletons.tsv
 
-SKELETONS has `skeleton_errors.tsv` and `normal.tsv`, which ICU wrote, `readings.tsv`, and `skeleton.py`, a reader that says
-a skeleton in the options of ECMA-402; MODEL has its tables. UNITS has `skeleton_units_errors.tsv`, `normal_units.tsv` and
-`skeletons_units.tsv`, which ICU wrote, and `skeleton_units.py`, which adds the stems of units to the reader. Normal forms
-are those of ICU; it loses `group-auto` of compact notation.
+SKELETONS has `skeleton_errors.tsv` and `normal.tsv`, which ICU wrote, `readings.tsv`, and `skeleton.py`, a reader that
+says a skeleton in the options of ECMA-402; MODEL has its tables. UNITS has `skeleton_units_errors.tsv`,
+`normal_units.tsv` and `skeletons_units.tsv`, which ICU wrote, and `skeleton_units.py`, which adds the stems of units to
+the reader. Normal forms are those of ICU; it loses `group-auto` of compact notation.
 """
 import os
 import re
@@ -14,12 +14,14 @@ import sys
 
 WHITE = "\t\n\v\f\r \x85\u200e\u200f\u2028\u2029"
 HOSTILE = ["currency/EUR .00/@@#r/w rounding-mode-half-up ()?", "scientific/*ee/+! precision-increment/0.25 %x100",
-           "KK group-auto unit-width-narrow latin scale/1e-3", "integer-width/##00 numbering-system/arab @@*/w +- EE+?00"]
+           "KK group-auto unit-width-narrow latin scale/1e-3",
+           "integer-width/##00 numbering-system/arab @@*/w +- EE+?00"]
 HOSTILE_UNITS = ["unit/square-meter-per-microsecond unit-width-narrow", "unit/light-year-per-day compact-long",
                  "per-measure-unit/duration-day-person measure-unit/concentr-percent decimal-always"]
 # What the library reads otherwise than ICU: docs/DIFFERENCES.md names both.
 OTHERWISE = {"unit/square-square-meter": "unsupported unit",
-             "compact-short unit/month-person-per-gigabyte () precision-currency-standard unit-width-narrow": "unsupported unit"}
+             "compact-short unit/month-person-per-gigabyte () precision-currency-standard unit-width-narrow":
+             "unsupported unit"}
 COUNTS = ["{@*65536}", "{@*65537}", "@{#*65535}", "@{#*65536}", ".{0*32768}", ".{0*32769}", ".{#*65535}", ".{#*65536}",
           ".00/{@*65537}r", ".{0*32769}/@s", "./@{#*65536}", "./{@*65537}*", "{0*32767}", "{0*32768}",
           "integer-width/*{0*32768}", "integer-width/{#*32768}0", "E{0*65535}", "E{0*65536}", "scientific/*{e*65536}",
@@ -28,8 +30,8 @@ COUNTS = ["{@*65536}", "{@*65537}", "@{#*65535}", "@{#*65536}", ".{0*32768}", ".
           "precision-increment/5e4", "precision-increment/.{0*32767}5", "precision-increment/.{0*32768}5",
           "{.*65536}", "{percent *65536}", "currency/{E*65536}", "numbering-system/{l*65536}", "{/*65536}"]
 DEFAULTS = {"style": "decimal", "currencyDisplay": "symbol", "currencySign": "standard", "currencyUsage": "standard",
-            "compactDisplay": "short", "unitDisplay": "short", "decimalSeparator": "auto", "integer": "1,32768", "trailingZeroDisplay": "auto", "signDisplay": "auto",
-            "useGrouping": "auto", "groupSizes": "locale"}
+            "compactDisplay": "short", "unitDisplay": "short", "decimalSeparator": "auto", "integer": "1,32768",
+            "trailingZeroDisplay": "auto", "signDisplay": "auto", "useGrouping": "auto", "groupSizes": "locale"}
 
 
 def rows(path):
@@ -61,7 +63,8 @@ def first(text, names):
 
 
 def loses_second(reading, said):
-    """Whether the options of ECMA-402 lose the unit after `per`: percent, not by its name and not in compact notation."""
+    """Whether the options of ECMA-402 lose the unit after `per`: percent, not by its name and not in compact
+    notation."""
     options = said.options
     return (isinstance(reading.unit, tuple) and options.get("unit", "").startswith("percent-per-")
             and options["unitDisplay"] != "long" and options.get("notation") != "compact")
@@ -243,7 +246,8 @@ def main(folder, model, units):
     global skeleton, skeleton_units
     import skeleton
     import skeleton_units
-    print("# Made by `python3 tools/numbers/skeleton_rows.py SKELETONS MODEL UNITS`, of what ICU 78.2 says of skeletons.")
+    print("# Made by `python3 tools/numbers/skeleton_rows.py SKELETONS MODEL UNITS`, "
+          "of what ICU 78.2 says of skeletons.")
     print("\n# The options of skeletons.")
     seen = set()
 

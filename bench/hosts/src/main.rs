@@ -87,7 +87,8 @@ fn format_row(name: &str, locale: &str, options: &Options) {
 fn main() {
     // SAFETY: the function takes nothing.
     assert_eq!(unsafe { fd_version() }, 8, "the structs are those of the library");
-    println!("|`NumberFormat::format` of 1234.5|crate, ns|and `write!`, ns|fd_format, ns|ratio|\n|---|---|---|---|---|");
+    println!("|`NumberFormat::format` of 1234.5|crate, ns|and `write!`, ns|fd_format, ns|ratio|");
+    println!("|---|---|---|---|---|");
     for locale in ["en", "de", "hi", "ar-EG", "ja"] {
         format_row("currency", locale, &Options::currency("EUR".parse().expect("a code")));
         format_row("percent", locale, &Options::percent());

@@ -14,6 +14,10 @@ Reports output old had_failed new failed =
     (line : List ℕ) × IsErrorLine output line × AppendsPrefix old new line × (failed ≡ false → Appends old new line)
     × (had_failed ≡ true → Keeps old new × (failed ≡ true))
 
+-- a line is written, or a prefix of it
+abbrev pub ReportsLine : Option (List ℕ) → Option (List ℕ) → Type 0
+ReportsLine old new = (text : List ℕ) × AppendsPrefix old new (text ++ (10 ∷ []))
+
 -- whether an error of a writer, if there is one, is that of a closed pipe
 abbrev pub is_closed_pipe : Option ErrorKind → Bool
 is_closed_pipe (Some BrokenPipe) = true

@@ -1,7 +1,7 @@
 //! `fixdec TEXT [to:END] [read:LOCALE] [CALL].. [format:LOCALE]`: reads a decimal, makes the calls in order, and prints
 //! the text of the result; or the text of a range of two decimals.
 ghost use Rattle.std.specs.{Prelude.{◌≡◌, ◌≢◌, ◌≤◌, ◌<◌, Bool, true, false, None, Result, Err, IfOk, IfErr, IfSome, OnOk}, Process.exit_status};
-ghost use Rattle.cli.specs.{declared.program.{error.ProgramError.ProgramError, help.Program.TheVariants.Fixdec}, Error.status_of, Fixdec.{of_text, HasError, Converts, HasTextRun, HasRangeRun, HasErrorOfText, HasErrorOfRange, PrintsLine, PrintsLinePrefix, Prints, PrintsPrefix}, Arguments.Ends, Diagnostics.Concludes};
+ghost use Rattle.cli.specs.{declared.program.{error.ProgramError.ProgramError, help.Program.TheVariants.Fixdec}, Error.status_of, Fixdec.{of_text, HasError, Converts, HasTextRun, HasRangeRun, HasErrorOfText, HasErrorOfRange, PrintsLine, PrintsLinePrefix, Prints, PrintsPrefix}, Arguments.Ends, Diagnostics.{Concludes, ReportsLine}};
 ghost use Rattle.conversions.specs.Conversion.{OperationsFail};
 
 use crate::program::arguments::start;
@@ -121,21 +121,7 @@ fn print<O: Write>(alloc: Global, words: &[String], out: &mut Out<O>) -> Result<
     Ok(true)
 }
 
-/// Runs the program on the words after its name, and returns the exit status.
-///
-/// The first word is the text, whatever it holds. The others are a `to:`, a `read:`, calls and a `format:`, as the text
-/// of `--help` has them. The words `250` and `shift:-2` print `2.50`, and `3`, `to:5` and `format:de:currency/EUR`
-/// print `3,00–5,00 €`.
-///
-/// # Errors
-///
-/// The error is reported, once:
-///
-/// - Status 1: the run fails with `start: syntax`, `call 7: overlap` and others of [`OperationError`], or with `end:
-///   syntax`, `end: call 7: overlap` and others of [`RangeError`](conversions::RangeError).
-/// - Status 2: no text, a word that names nothing, or `unknown locale`.
-/// - Status 3: `memory`, or `output` where a write or the flush of `out` fails.
-pub fn program<O: Write, D: Diagnostics<ProgramError>>(
+fn run_words<O: Write, D: Diagnostics<ProgramError>>(
     alloc: Global,
     words: &[String],
     out: &mut Out<O>,
@@ -155,7 +141,43 @@ pub fn program<O: Write, D: Diagnostics<ProgramError>>(
     conclude(print(alloc, words, out), None, diagnostics)
 }
 
-/// Runs `program` on the arguments of the process, with a buffer before `out`, which is returned after its last call.
+/// Runs the program on the words after its name, and returns the exit status.
+///
+/// The first word is the text, whatever it holds. The others are a `to:`, a `read:`, calls and a `format:`, as the text
+/// of `--help` has them. The words `250` and `shift:-2` print `2.50`, and `3`, `to:5` and `format:de:currency/EUR`
+/// print `3,00–5,00 €`.
+///
+/// # Errors
+///
+/// The error is reported as a line of `err`, which is one write where `err` takes it whole:
+///
+/// - Status 1: the run fails with `start: syntax`, `call 7: overlap` and others of [`OperationError`], or with `end:
+///   syntax`, `end: call 7: overlap` and others of [`RangeError`](conversions::RangeError).
+/// - Status 2: no text, a word that names nothing, or `unknown locale`.
+/// - Status 3: `memory`, or `output` where a write or the flush of `out` fails.
+pub fn program<O: Write, E: Write>(
+    alloc: Global,
+    words: &[String],
+    out: &mut Out<O>,
+    err: &mut E,
+) -> u8
+    ensures at_most { result ≤ 3 }
+    ensures printed { result ≡ 0 → Prints words.now (O.contents out.old.0) (O.contents out.new.0) }
+    ensures has_not_failed { result ≡ 0 → out.new.1 ≡ false }
+    ensures silent { result ≡ 0 → err.new ≡ err.old }
+    ensures reported { 0 < result → (error : ProgramError) × (result ≡ status_of error) × HasError words.now error
+        × ReportsLine (E.contents err.old) (E.contents err.new)
+        × (error ≢ ProgramError.Output → out.new ≡ out.old)
+        × (error ≡ ProgramError.Output → (out.new.1 ≡ true)
+        × PrintsPrefix words.now (O.contents out.old.0) (O.contents out.new.0)) }
+    ensures unchanged_on_error { 0 < result → result < 3 → out.new ≡ out.old }
+{
+    let mut lines = ErrorLines::new(err);
+    run_words(alloc, words, out, &mut lines)
+}
+
+/// Does what `program` does on the arguments of the process, with a buffer before `out`, which is returned after its
+/// last call.
 /// The only word `--help` or `-h` prints the help and the version.
 pub fn run_arguments<O: Write + Drop, D: Diagnostics<ProgramError>>(
     alloc: Global,
@@ -179,7 +201,7 @@ pub fn run_arguments<O: Write + Drop, D: Diagnostics<ProgramError>>(
         return (conclude(Err(no_memory), None, diagnostics), None);
     };
     let mut buffered = Out::new(buffer);
-    let status = program(alloc, words.as_slice(), &mut buffered, diagnostics);
+    let status = run_words(alloc, words.as_slice(), &mut buffered, diagnostics);
     if status != 0 {
         return (status, Some(buffered.abandon()));
     }

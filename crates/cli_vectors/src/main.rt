@@ -112,8 +112,7 @@ fn holds_of_words(
     let words = row.words(alloc)?;
     let mut out = Out::new(output.writer(failure).with_width(width));
     let mut err = errors.writer(failure).with_width(width);
-    let mut lines = ErrorLines::new(&mut err);
-    let status = fixdec::program(alloc, words.as_slice(), &mut out, &mut lines);
+    let status = fixdec::program(alloc, words.as_slice(), &mut out, &mut err);
     Some(status == row.status && output.is_in(&out.into_writer()) && errors.is_in(&err))
 }
 

@@ -159,7 +159,8 @@ impl<'f, D: DigitStore> FormattedAbsolute<'f, D> {
         count_between(self.value.lowest(), self.value.highest())
     }
 
-    /// Returns the magnitude that is the given number below the highest. Requires one that is shown.
+    /// Returns the magnitude that is `below` less than the highest one that is shown. `below` is less than
+    /// `shown_count()`.
     #[inline]
     pub fn magnitude(&self, below: u32) -> i16
         requires { below < shown_count self.now.value }

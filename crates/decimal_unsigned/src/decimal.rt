@@ -78,7 +78,7 @@ pub const INLINE_DIGITS: usize = <DecimalStore as DigitStore>::L;
 
 const _: () = prove!(INLINE_DIGITS == 16);
 
-/// An unsigned decimal.
+/// A decimal without a sign, with the range of magnitudes that it shows: `2.50` is another value than `2.5`.
 pub type UnsignedDecimal = UnsignedOver<DecimalStore>;
 
 /// An unsigned decimal with one digit to a byte, of which eight need no allocation.

@@ -1,6 +1,6 @@
 -- The plural rules of tags.
-use Rattle.std.specs.{Prelude.{◌≡◌, ℕ, List, Option, None, Some, Result, Ok, Err, IsSomeAnd, codes, slice_get}, Option.option_map}
-use Rattle.plural_rules.specs.{Operands.Operands, Rules.RuleValue, RulesGrammar.{Grammar, IsCategoryByText}, RulesParseResult.IsParseResult, declared.rules.PluralCategory.PluralCategory}
+use Rattle.std.specs.{Prelude.{◌≡◌, ◌==◌, ◌&&◌, ◌||◌, if◌then◌else◌, ℕ, List, [], ◌∷◌, Bool, true, false, Option, None, is_none, Some, Result, Ok, Err, IsSomeAnd, codes, slice_get}, List.{list_any, list_all}, Option.option_map}
+use Rattle.plural_rules.specs.{Operands.Operands, Rules.{RelationValue, RuleValue}, RulesGrammar.{Grammar, IsCategoryByText}, RulesParseResult.IsParseResult, declared.rules.{Operand.{Operand, TheVariants.{N, I, V}}, PluralCategory.{PluralCategory, TheVariants.One}, Range.Range}}
 use Rattle.plural_rules.specs.declared.parse.RulesError.TheVariants as rules
 use Rattle.locale_data.specs.{declared.{plurals.{PluralRulesError.{PluralRulesError, TheVariants.{UnknownLocale, Memory}}, PluralRuleType.{PluralRuleType, TheVariants.{Cardinal, Ordinal}}, PluralRulesId.PluralRulesId}, tables.{rows.{plurals.{LanguageRules.LanguageRules, RuleSet.RuleSet}, symbols.LocaleSymbols.LocaleSymbols}, plurals.TheConstants.{OTHER, PLURAL_RULES, PLURAL_RULES_TEXTS}, symbols.TheConstants.LOCALES}}, Rows.{part, IsRowOf}}
 
@@ -53,6 +53,42 @@ IsRulesAt id (Err Memory) =
 abbrev pub IsCategoryAt : PluralRulesId → Operands → PluralCategory → Type 0
 IsCategoryAt id operands category =
     IsSomeAnd (rules_text_at id) (λ text. IsCategoryByText text operands category)
+
+-- the operand is the one that is wanted, which is n, i or v
+abbrev pub operand_is : Operand → Operand → Bool
+operand_is N N = true
+operand_is I I = true
+operand_is V V = true
+operand_is wanted operand = false
+
+-- no other number is in the ranges
+abbrev pub is_just : ℕ → List Range → Bool
+is_just n (r ∷ []) = r.low == n && r.high == n
+is_just n ranges = false
+
+-- the relation is `operand = n`
+abbrev pub is_equation : Operand → ℕ → RelationValue → Bool
+is_equation operand n r = operand_is operand r.operand && (is_none r.modulus && (r.is_equal && is_just n r.ranges))
+
+-- the relations ask for the number 1: they have `n = 1`, or both `i = 1` and `v = 0`
+abbrev pub ask_for_one : List RelationValue → Bool
+ask_for_one relations =
+    list_any (is_equation N 1) relations
+    || (list_any (is_equation I 1) relations && list_any (is_equation V 0) relations)
+
+abbrev pub is_one : PluralCategory → Bool
+is_one One = true
+is_one category = false
+
+-- if the rule is that of `one`, each alternative asks for the number 1
+abbrev pub asks_for_one : RuleValue → Bool
+asks_for_one r = if is_one r.category then list_all ask_for_one r.alternatives else true
+
+-- by the rules no other number is `one`
+abbrev pub HasOneAlone : PluralRulesId → Type 0
+HasOneAlone id =
+    IsSomeAnd (rules_text_at id)
+    (λ text. (rules : List RuleValue) × Grammar text rules × (list_all asks_for_one rules ≡ true))
 
 -- the rules of a tag, or why there are none
 abbrev pub IsRulesOf : List ℕ → PluralRuleType → Result (List RuleValue) PluralRulesError → Type 0

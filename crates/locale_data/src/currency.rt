@@ -295,8 +295,9 @@ fn own_pattern(currency: Option<LocalCurrency>) -> Option<u8>
     }
 }
 
-/// Returns how a currency is written in a locale that has these formats, and this for the currency.
+/// Returns the pattern by which a locale writes amounts of a currency.
 ///
+/// `formats` are those of the locale, and `currency` is what the locale has for the currency, if its code is listed.
 /// The pattern is the first of these three that there is: the one that the locale has for this currency; that of the
 /// region's currency, which ICU uses for all currencies there; the pattern of the formats. A code that is not listed
 /// has the pattern of other currencies.

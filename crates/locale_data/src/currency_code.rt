@@ -59,7 +59,7 @@ impl CurrencyCode {
         CurrencyCode { letters: *b"XXX" }
     }
 
-    /// Returns the code that a text is. Letters may be of either case.
+    /// Parses the code of a currency: three letters of ASCII, of either case.
     ///
     /// # Errors
     ///

@@ -1,7 +1,8 @@
 //! Plural categories by the rows of plural rules.
-ghost use Rattle.std.specs.{Prelude.{◌≡◌, List}, List.list_all};
+ghost use Rattle.std.specs.{Prelude.{◌≡◌, List, map}, List.{list_any, list_all}};
 ghost use Rattle.plural_rules.specs.Rules.{holds, is_met, category_of};
-ghost use Rattle.locale_data.specs.PluralRows.{relation_of, relations_in, rule_of, rules_in};
+ghost use Rattle.locale_data.specs.{PluralRows.{relation_of, relations_in, rule_of, rules_in}, Plurals.{operand_is, is_just, is_equation, ask_for_one, asks_for_one}, Rows.part};
+ghost use Rattle.locale_data.specs.declared.tables.plurals.TheConstants.{PLURAL_ALTERNATIVES};
 
 use crate::search::part;
 use crate::tables::plurals::{
@@ -10,7 +11,7 @@ use crate::tables::plurals::{
 use crate::tables::rows::TableRange;
 use crate::tables::rows::plurals::{RelationRow, RuleRow};
 use fixed_decimal::DigitStore;
-use plural_rules::{Modulus, PluralCategory, PluralOperands, relation_holds};
+use plural_rules::{Modulus, Operand, PluralCategory, PluralOperands, Range, relation_holds};
 
 fn holds<D: DigitStore>(relation: &RelationRow, number: &PluralOperands<'_, D>) -> bool
     ensures { result ≡ holds number.now (relation_of relation.now) }
@@ -58,4 +59,90 @@ pub(crate) fn category_in<D: DigitStore>(
         }
     }
     PluralCategory::Other
+}
+
+fn operand_is(wanted: Operand, operand: Operand) -> bool
+    ensures { result ≡ operand_is wanted operand }
+{
+    matches!(
+        (wanted, operand),
+        (Operand::N, Operand::N) | (Operand::I, Operand::I) | (Operand::V, Operand::V)
+    )
+}
+
+fn is_just(number: u64, ranges: &[Range]) -> bool
+    ensures { result ≡ is_just number ranges.now }
+{
+    match ranges {
+        [range] => range.low == number && range.high == number,
+        _ => false,
+    }
+}
+
+fn is_equation(operand: Operand, number: u64, relation: &RelationRow) -> bool
+    ensures { result ≡ is_equation operand number (relation_of relation.now) }
+{
+    if !operand_is(operand, relation.operand) {
+        return false;
+    }
+    if Modulus::new(relation.modulus).is_some() {
+        return false;
+    }
+    if !relation.is_equal {
+        return false;
+    }
+    is_just(number, part(&PLURAL_RANGES, relation.ranges))
+}
+
+fn have_equation(operand: Operand, number: u64, relations: TableRange) -> bool
+    ensures { result ≡ list_any (is_equation operand number) (relations_in relations) }
+{
+    let rows = part(&PLURAL_RELATIONS, relations);
+    for relation in rows {
+        if is_equation(operand, number, relation) {
+            return true;
+        }
+    }
+    false
+}
+
+fn ask_for_one(relations: TableRange) -> bool
+    ensures { result ≡ ask_for_one (relations_in relations) }
+{
+    have_equation(Operand::N, 1, relations)
+        || have_equation(Operand::I, 1, relations) && have_equation(Operand::V, 0, relations)
+}
+
+fn all_ask_for_one(alternatives: TableRange) -> bool
+    ensures { result ≡ list_all ask_for_one (map relations_in (part PLURAL_ALTERNATIVES alternatives)) }
+{
+    let rows = part(&PLURAL_ALTERNATIVES, alternatives);
+    for relations in rows {
+        if !ask_for_one(*relations) {
+            return false;
+        }
+    }
+    true
+}
+
+fn asks_for_one(rule: &RuleRow) -> bool
+    ensures { result ≡ asks_for_one (rule_of rule.now) }
+{
+    match rule.category {
+        PluralCategory::One => all_ask_for_one(rule.alternatives),
+        _ => true,
+    }
+}
+
+/// Returns whether each rule of `one` in a range of `PLURAL_RULE_ROWS` asks for the number 1.
+pub(crate) fn is_one_alone_in(rules: TableRange) -> bool
+    ensures { result ≡ list_all asks_for_one (rules_in rules) }
+{
+    let rows = part(&PLURAL_RULE_ROWS, rules);
+    for rule in rows {
+        if !asks_for_one(rule) {
+            return false;
+        }
+    }
+    true
 }

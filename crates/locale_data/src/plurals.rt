@@ -1,9 +1,9 @@
 //! The plural rules of a tag.
-ghost use Rattle.std.specs.{Prelude.{◌≡◌, None, IfSome, IfNone, IsSomeAnd}, Option.option_copied};
-ghost use Rattle.locale_data.specs.Plurals.{set_of, set_at, rules_text_at, IsRulesText, HasNoRules, IsRulesAt, IsCategoryAt, IsRulesOf};
+ghost use Rattle.std.specs.{Prelude.{◌≡◌, ◌↔◌, None, IfSome, IfNone, IsSomeAnd, IsTrue}, Option.option_copied};
+ghost use Rattle.locale_data.specs.Plurals.{set_of, set_at, rules_text_at, IsRulesText, HasNoRules, IsRulesAt, IsCategoryAt, IsRulesOf, HasOneAlone};
 
 use crate::locales::locales;
-use crate::plural_rows::category_in;
+use crate::plural_rows::{category_in, is_one_alone_in};
 use crate::search::{Row, part, row_index};
 use crate::tables::plurals::{OTHER, PLURAL_RULES, PLURAL_RULES_TEXTS};
 use crate::tables::rows::Name;
@@ -192,6 +192,24 @@ pub fn plural_category_at<D: DigitStore>(
     match set_at(rules) {
         Some(set) => Some(category_in(set.rules, number)),
         None => None,
+    }
+}
+
+/// Returns whether `one` is the category of the number 1 alone, by what the rules ask for: `n = 1`, or `i = 1` and
+/// `v = 0`.
+///
+/// It is false also if no language has the index.
+///
+/// ```
+/// is_one_alone(plural_rules_id("it", PluralRuleType::Cardinal)?) // true
+/// is_one_alone(plural_rules_id("fr", PluralRuleType::Cardinal)?) // false: 0 and 1.5 are `one` too
+/// ```
+pub fn is_one_alone(rules: PluralRulesId) -> bool
+    ensures { IsTrue result ↔ HasOneAlone rules }
+{
+    match set_at(rules) {
+        Some(set) => is_one_alone_in(set.rules),
+        None => false,
     }
 }
 

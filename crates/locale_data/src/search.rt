@@ -13,6 +13,7 @@ use crate::tag::tag_byte;
 pub trait Row {
     ghost name: { Self → List ℕ };
 
+    /// Returns the name by which the table is sorted.
     fn name(&self) -> Name
         ensures { result ≡ name self.now };
 }
@@ -147,7 +148,7 @@ pub fn row_named<'a, R: Row>(rows: &'a [R], name: &[u8]) -> Option<&'a R>
     }
 }
 
-/// Returns the index of the row with the longest name that is a tag, or has a hyphen after it there.
+/// Returns the index of the row that [`row_of`] finds.
 pub fn row_index<R: Row>(rows: &[R], tag: &[u8]) -> Option<usize>
     requires { is_table R.name rows.now ≡ true }
     ensures value { IsRowOf R.name rows.now tag.now (row_at rows.now result) }
@@ -171,7 +172,7 @@ pub fn row_index<R: Row>(rows: &[R], tag: &[u8]) -> Option<usize>
     search(rows, tag, tag.len(), padded).row.or(found)
 }
 
-/// Returns the row of a part of a table with the longest name that is a tag, or has a hyphen after it there.
+/// Returns what [`row_of`] does, of a part of a table.
 pub fn row_in<'a, R: Row>(table: &'a [R], range: TableRange, tag: &[u8]) -> Option<&'a R>
     requires { is_table R.name (part table.now range) ≡ true }
     ensures { IsRowOf R.name (part table.now range) tag.now (option_copied result) }
@@ -179,7 +180,7 @@ pub fn row_in<'a, R: Row>(table: &'a [R], range: TableRange, tag: &[u8]) -> Opti
     row_of(part(table, range), tag)
 }
 
-/// Returns the row with the longest name that is a tag, or has a hyphen after it there.
+/// Returns the row with the longest name that is `tag`, or with which `tag` begins before a hyphen: `de` for `de-AT`.
 pub fn row_of<'a, R: Row>(rows: &'a [R], tag: &[u8]) -> Option<&'a R>
     requires { is_table R.name rows.now ≡ true }
     ensures { IsRowOf R.name rows.now tag.now (option_copied result) }

@@ -1,20 +1,24 @@
 -- Numbers in compact notation: the texts around them, and which are read.
-use Rattle.std.specs.{Prelude.{◌≡◌, ℕ, zero, suc, ◌<◌, ◌/◌, ◌%◌, ◌+◌, ◌==◌, Bool, true, false, ◌&&◌, if◌then◌else◌, ◌⊎◌, List, ◌++◌, Option, None, Some, is_none, Result, Ok, Err, ℤ, pos, ◌+ℤ◌, ◌-ℤ◌}, Int.int_min, List.Contains}
+use Rattle.std.specs.{Prelude.{◌≡◌, ℕ, zero, suc, ◌<◌, ◌/◌, ◌%◌, ◌+◌, ◌==◌, Bool, true, false, not, ◌&&◌, if◌then◌else◌, ◌⊎◌, List, ◌++◌, Option, None, Some, is_none, Result, Ok, Err, ℤ, pos, ◌+ℤ◌, ◌-ℤ◌}, Int.int_min, List.Contains}
 use Rattle.decimal_digits.specs.Number.{first}
 use Rattle.decimal_unsigned.specs.{Unsigned.{Unsigned, one_value}, declared.error.ParseError.{ParseError, TheVariants.Syntax}}
 use Rattle.fixed_decimal.specs.{Decimal.Decimal, declared.variations.Sign.Sign}
 use Rattle.plural_rules.specs.Operands as operands
 use Rattle.plural_rules.specs.declared.rules.PluralCategory.{PluralCategory}
 use Rattle.decimal_format.specs.{Formatted.absolute_text, Readable.{BeginsWithDigit, IsReadable}, Reading.IsRead, Symbols.{Symbols, affixes}, declared.grouping.GroupingStrategy.GroupingStrategy}
-use Rattle.locale_data.specs.{Compact.{pattern_for, compact_patterns}, Plurals.IsCategoryAt, declared.{compact.CompactStyle.CompactStyle, tables.rows.compact.CompactPattern.CompactPattern}}
-use Rattle.number_format.specs.{declared.{format.formatter.NumberFormatter.NumberFormatter, notation.Notation.Notation, read.{compact.keys.CompactKey.CompactKey, pattern.NumberPattern.NumberPattern}}, AffixedTexts.{AreNamed, AreSame, AreToldApart, Reader, between, shifted, IsWritten, IsWrittenBy, IsNumeral, IsShifted, IsOrElse}, NumberText.{around_by, outer_by}, PatternTexts.Around, Scaled.{exponent_at, IsOrdered}, TextParts.pieces_text}
+use Rattle.locale_data.specs.{Compact.{pattern_for, compact_patterns}, Plurals.{IsCategoryAt, HasOneAlone}, declared.{compact.CompactStyle.CompactStyle, tables.rows.compact.CompactPattern.CompactPattern}}
+use Rattle.number_format.specs.{declared.{format.formatter.NumberFormatter.NumberFormatter, notation.Notation.Notation, read.{compact.keys.CompactKey.CompactKey, pattern.NumberPattern.NumberPattern}}, AffixedTexts.{AreNamed, AreSame, AreToldApart, Reader, between, shifted, IsWritten, IsWrittenBy, IsNumeral, IsShifted, IsOrElse}, NumberText.{around_by, is_negative, outer_by}, PatternTexts.Around, Scaled.{exponent_at, IsOrdered}, TextParts.pieces_text}
 
 -- ---- The texts around numbers.
+
+-- the pattern for 1 itself is chosen, as it is for 1 without a minus sign
+abbrev pub is_single : CompactKey → Bool
+is_single k = k.is_one && not (is_negative k.sign)
 
 -- what is around the digits, by the magnitude, the category and the sign of a number
 abbrev pub inner_at : NumberFormatter → CompactStyle → CompactKey → Around
 inner_at f style k =
-    around_by f.style k.sign (pattern_for k.category k.is_one (compact_patterns f.formats style k.magnitude))
+    around_by f.style k.sign (pattern_for k.category (is_single k) (compact_patterns f.formats style k.magnitude))
 
 -- the pattern of these texts, within what is around the whole text; `K` stands for the power of ten 3
 abbrev pub word_pattern : NumberFormatter → CompactStyle → CompactKey → NumberPattern
@@ -40,7 +44,6 @@ HasNoDigit s text = (a b : List ℕ) → text ≡ a ++ b → ¬ BeginsWithDigit 
 
 -- the texts of a key are a whole text, which is that of the pattern
 pub record IsWholeText (f : NumberFormatter) (style : CompactStyle) (p : NumberPattern) (k : CompactKey) : Type 0 where
-  pub one : k.is_one ≡ true
   pub none : has_number_at f style k ≡ false
   pub same : whole_text p ≡ whole_text (word_pattern f style k)
 
@@ -53,9 +56,13 @@ HasMeaningOf f style p k =
 abbrev pub HasOneMeaning : NumberFormatter → CompactStyle → NumberPattern → Type 0
 HasOneMeaning f style p = (k : CompactKey) → HasMeaningOf f style p k
 
+-- the texts of a key are those of the number 1 alone, by their pattern or by their category
+abbrev pub IsForOneAlone : NumberFormatter → CompactKey → Type 0
+IsForOneAlone f k = (is_single k ≡ true) ⊎ ((k.category ≡ PluralCategory.One) × HasOneAlone f.rules)
+
 -- a whole text is that of the number 1 alone; it has no digit, and one meaning
 pub record IsReadWhole (f : NumberFormatter) (style : CompactStyle) (k : CompactKey) : Type 0 where
-  pub one : k.is_one ≡ true
+  pub one : IsForOneAlone f k
   pub no_digit : HasNoDigit f.style.symbols (whole_text (word_pattern f style k))
   pub meaning : HasOneMeaning f style (word_pattern f style k)
 
@@ -258,7 +265,7 @@ IsSameBefore f style m =
 pub record AreAlike (f : NumberFormatter) (style : CompactStyle) (k l : CompactKey) : Type 0 where
   pub pattern : word_pattern f style k ≡ word_pattern f style l
   pub has_number : has_number_at f style k ≡ has_number_at f style l
-  pub one : k.is_one ≡ true → l.is_one ≡ true
+  pub one : IsForOneAlone f k → IsForOneAlone f l
 
 -- a key with a smaller index has the same texts
 abbrev pub RepeatsAnother : NumberFormatter → CompactStyle → ℕ → Type 0

@@ -4,12 +4,11 @@ use Rattle.std.specs.{Prelude.{◌≡◌, ℕ, ◌+◌, ◌/◌, ◌==◌, nat_l
 use Rattle.decimal_digits.specs.declared.rounding.RoundError.{RoundError}
 use Rattle.decimal_unsigned.specs.{Unsigned.{Unsigned, same}, declared.decimal.TheConstants.INLINE_DIGITS}
 use Rattle.fixed_decimal.specs.{Decimal.{Decimal, signed_number}, DecimalText.IsLong, declared.variations.Sign.Sign}
-use Rattle.decimal_format.specs.Symbols.{affixes}
 use Rattle.plural_rules.specs.Operands as operands
 use Rattle.plural_rules.specs.declared.rules.PluralCategory.{PluralCategory}
 use Rattle.locale_data.specs.{declared.tables.rows.{compact.{CompactForm.{CompactForm, TheVariants.SignLast}, CompactPattern.CompactPattern}, patterns.{AffixPair.AffixPair, Pattern.Pattern, Piece.Piece}, ranges.{ApproximatelySign.ApproximatelySign, RangeFormat.RangeFormat, RangeSeparator.{RangeSeparator, TheVariants.{SpacedHyphen, SpacedEnDash}}}}, Patterns.affixes_of, PluralRanges.plural_range_category, Plurals.IsCategoryAt}
 use Rattle.locale_data.specs.RangeFormats as range_texts
-use Rattle.number_format.specs.{declared.{format.{affixes.StyleTexts.StyleTexts, formatter.NumberFormatter.NumberFormatter, text_part.PartKind.PartKind}, options.NumberNotation.NumberNotation, range.{common.BareTexts.BareTexts, form.RangeForm.{RangeForm, TheVariants.{Approximate, Common, Apart}}, range_texts.RangeTexts.RangeTexts}}, NumberStyles.{begins_with_currency, ends_with_currency}, NumberText.{around_by, compact_magnitude, compact_pattern, compact_prefix, compact_style, compact_suffix, exponent_of, has_number, is_negative, is_one, is_plain, number_part, outer_by, outer_operands, shown_number, shown_sign, FormattingNeedsMemory}, PatternTexts.{Around, around, affix_pieces, literal, pattern_pieces, sign_pieces, space_if, within}, Scaled.ScaledValue, TextParts.{pieces_of, pieces_text}}
+use Rattle.number_format.specs.{declared.{format.{affixes.StyleTexts.StyleTexts, formatter.NumberFormatter.NumberFormatter, text_part.PartKind.PartKind}, options.NumberNotation.NumberNotation, range.{form.RangeForm.{RangeForm, TheVariants.{Approximate, Common, Apart}}, range_texts.RangeTexts.RangeTexts}}, NumberStyles.{begins_with_currency, ends_with_currency}, NumberText.{around_by, compact_magnitude, compact_pattern, compact_prefix, compact_style, compact_suffix, exponent_of, has_number, is_negative, is_one, is_plain, number_part, outer_by, outer_operands, shown_number, shown_sign, FormattingNeedsMemory}, PatternTexts.{Around, around, affix_pieces, literal, pattern_pieces, sign_pieces, space_if, within}, Scaled.ScaledValue, TextParts.{pieces_of, pieces_text}}
 use Rattle.number_format.specs.TextParts as parts
 
 -- ---- The ends.
@@ -57,24 +56,19 @@ end_around n = around_by n.formatter.style n.sign n.pattern
 abbrev pub without_spaces : StyleTexts → StyleTexts
 without_spaces t = record t { currency = record t.currency { space_before = false; space_after = false } }
 
--- the texts of what is around a number
-abbrev pub texts_of : Around → BareTexts
-texts_of a =
-    record { affixes = affixes (pieces_text a.prefix) (pieces_text a.suffix); has_number = a.has_number }
-
--- the texts around an end, without the spaces between a currency and a digit
-abbrev pub bare_texts : RangeEnd → BareTexts
-bare_texts n = texts_of (around_by (without_spaces n.formatter.style) n.sign n.pattern)
+-- what is around an end, without the spaces between a currency and a digit
+abbrev pub bare_around : RangeEnd → Around
+bare_around n = around_by (without_spaces n.formatter.style) n.sign n.pattern
 
 -- two facts hold both or not at all
 abbrev pub both_or_neither : Bool → Bool → Bool
 both_or_neither a b = if a then b else not b
 
 -- the prefixes are equal, the suffixes are equal, and a number is between both, or between neither
-abbrev pub are_same_texts : BareTexts → BareTexts → Bool
+abbrev pub are_same_texts : Around → Around → Bool
 are_same_texts a b =
-    bytes_eq a.affixes.prefix b.affixes.prefix
-    && (bytes_eq a.affixes.suffix b.affixes.suffix && both_or_neither a.has_number b.has_number)
+    bytes_eq (pieces_text a.prefix) (pieces_text b.prefix)
+    && (bytes_eq (pieces_text a.suffix) (pieces_text b.suffix) && both_or_neither a.has_number b.has_number)
 
 -- a byte of UTF-8 begins a character: it is none of those that continue one
 abbrev pub begins_character : ℕ → Bool
@@ -85,8 +79,8 @@ abbrev pub characters : List ℕ → ℕ
 characters text = count_by begins_character text
 
 -- the number of characters before and after a number together
-abbrev pub characters_around : BareTexts → ℕ
-characters_around t = characters t.affixes.prefix + characters t.affixes.suffix
+abbrev pub characters_around : Around → ℕ
+characters_around a = characters (pieces_text a.prefix) + characters (pieces_text a.suffix)
 
 -- the notation writes an exponent
 abbrev pub has_exponent : NumberNotation → Bool
@@ -112,10 +106,10 @@ have_same_sign v w = both_or_neither (is_negative v.sign) (is_negative w.sign)
 -- than one character; or each with its own
 abbrev pub form_by : Bool → Bool → RangeEnd → RangeEnd → RangeForm
 form_by equal same_sign m n =
-    let alike = are_same_texts (bare_texts m) (bare_texts n) in
+    let alike = are_same_texts (bare_around m) (bare_around n) in
     let rounded_alike = same_sign && same m.digits n.digits in
     if alike && (int_eq (written_exponent m) (written_exponent n) && (equal || rounded_alike)) then Approximate
-    else if alike && nat_lt 1 (characters_around (bare_texts m)) then Common
+    else if alike && nat_lt 1 (characters_around (bare_around m)) then Common
     else Apart
 
 -- the form of the range of two numbers and their ends
@@ -132,7 +126,7 @@ is_apart other = false
 -- spaces are beside the separator after an exponent, and if the start has affixes of its own
 abbrev pub needs_spaces : RangeForm → RangeEnd → Bool
 needs_spaces form m =
-    has_exponent m.formatter.options.notation || (is_apart form && nat_lt 0 (characters_around (bare_texts m)))
+    has_exponent m.formatter.options.notation || (is_apart form && nat_lt 0 (characters_around (bare_around m)))
 
 -- the separator has spaces of its own; a thin space is none
 abbrev pub has_spaces : RangeSeparator → Bool
@@ -215,58 +209,59 @@ pub record ShownRange : Type 0 where
   pub spaced : Bool
   pub category : PluralCategory
 
--- one number, which is of neither end alone
-abbrev pub approximate_pieces : Around → Around → List parts.Piece → RangePieces
-approximate_pieces u a number = record {
-  prefix = u.prefix;
+-- the pieces without what is around the whole text: one number, which is of neither end alone; two numbers between the
+-- affixes of the start; or two numbers with affixes of their own
+abbrev pub inner_pieces : RangeForm → ShownRange → RangePieces
+inner_pieces Approximate r = record {
+  prefix = [];
   start = [];
-  middle = pieces_if u.has_number (within a number);
+  middle =
+      within (approximate_around r.start.formatter.style r.format.approximately r.start.sign r.start.pattern)
+      (end_number r.start);
   end = [];
-  suffix = u.suffix;
+  suffix = [];
+}
+inner_pieces Common r = record {
+  prefix = (end_around r.start).prefix;
+  start = pieces_if (end_around r.start).has_number (end_number r.start);
+  middle = pieces_if (end_around r.start).has_number (separator_pieces r.format.separator r.spaced);
+  end = pieces_if (end_around r.start).has_number (end_number r.end);
+  suffix = (end_around r.start).suffix;
+}
+inner_pieces Apart r = record {
+  prefix = [];
+  start = within (end_around r.start) (end_number r.start);
+  middle = separator_pieces r.format.separator r.spaced;
+  end = within (end_around r.end) (end_number r.end);
+  suffix = [];
 }
 
--- two numbers between affixes; what is around the whole text begins after the prefix
-abbrev pub common_pieces : Around → Around → List parts.Piece → List parts.Piece → List parts.Piece → RangePieces
-common_pieces u a start separator end = record {
-  prefix = a.prefix ++ u.prefix;
-  start = pieces_if (u.has_number && a.has_number) start;
-  middle = pieces_if (u.has_number && a.has_number) separator;
-  end = pieces_if (u.has_number && a.has_number) end;
-  suffix = pieces_if u.has_number a.suffix ++ u.suffix;
+-- pieces with what is around the whole text, which begins after the prefix and may be instead of the rest
+abbrev pub with_outer : Around → RangePieces → RangePieces
+with_outer u p = record {
+  prefix = p.prefix ++ u.prefix;
+  start = pieces_if u.has_number p.start;
+  middle = pieces_if u.has_number p.middle;
+  end = pieces_if u.has_number p.end;
+  suffix = pieces_if u.has_number p.suffix ++ u.suffix;
 }
 
--- two numbers with affixes of their own
-abbrev pub apart_pieces : Around → List parts.Piece → List parts.Piece → List parts.Piece → RangePieces
-apart_pieces u start separator end = record {
-  prefix = u.prefix;
-  start = pieces_if u.has_number start;
-  middle = pieces_if u.has_number separator;
-  end = pieces_if u.has_number end;
-  suffix = u.suffix;
-}
-
--- the pieces of a range in a form
-abbrev pub pieces_by : RangeForm → ShownRange → RangePieces
-pieces_by Approximate r =
-    approximate_pieces (outer_by r.start.formatter r.category)
-    (approximate_around r.start.formatter.style r.format.approximately r.start.sign r.start.pattern)
-    (end_number r.start)
-pieces_by Common r =
-    common_pieces (outer_by r.start.formatter r.category) (end_around r.start) (end_number r.start)
-    (separator_pieces r.format.separator r.spaced) (end_number r.end)
-pieces_by Apart r =
-    apart_pieces (outer_by r.start.formatter r.category) (within (end_around r.start) (end_number r.start))
-    (separator_pieces r.format.separator r.spaced) (within (end_around r.end) (end_number r.end))
-
--- the pieces of a range in its own form
+-- the pieces of a range
 abbrev pub range_pieces : ShownRange → RangePieces
-range_pieces r = pieces_by r.form r
+range_pieces r = with_outer (outer_by r.start.formatter r.category) (inner_pieces r.form r)
 
 -- the text of the pieces, one after another
 abbrev pub text_of_pieces : RangePieces → List ℕ
 text_of_pieces p =
     pieces_text p.prefix
     ++ (pieces_text p.start ++ (pieces_text p.middle ++ (pieces_text p.end ++ pieces_text p.suffix)))
+
+-- a text has a first part, and after it a second one
+pub record HasBoth (text first second : List ℕ) : Type 0 where
+  pub before : List ℕ
+  pub between : List ℕ
+  pub after : List ℕ
+  pub is : text ≡ before ++ (first ++ (between ++ (second ++ after)))
 
 -- the plural category of an approximate number is its own, and that of two numbers is the one that the language has for
 -- a range of their categories

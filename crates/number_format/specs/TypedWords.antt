@@ -4,7 +4,7 @@ use Rattle.decimal_unsigned.specs.declared.error.ParseError.{ParseError, TheVari
 use Rattle.fixed_decimal.specs.Decimal.{Decimal}
 use Rattle.decimal_format.specs.declared.reader.alternatives.Alternative.{Alternative}
 use Rattle.locale_data.specs.{Compact.{pattern_for, compact_patterns, text_of}, declared.{compact.CompactStyle.CompactStyle, tables.rows.compact.CompactPattern.CompactPattern}}
-use Rattle.number_format.specs.{declared.{format.{formatter.NumberFormatter.NumberFormatter, outer.OuterTexts.OuterTexts}, read.compact.{keys.CompactKey.CompactKey, typed.TypedText.TypedText}}, AffixedTexts.{Reader, IsShifted, IsOrElse, IsReadWith}, CompactReading.{key_at, IsReadOrAny}, Scaled.exponent_at, TrimmedTexts.is_trimmed}
+use Rattle.number_format.specs.{declared.{format.{formatter.NumberFormatter.NumberFormatter, outer.OuterTexts.OuterTexts}, read.compact.{keys.CompactKey.CompactKey, typed.TypedText.TypedText}}, AffixedTexts.{Reader, IsShifted, IsOrElse, IsReadWith}, CompactReading.{key_at, is_single, IsReadOrAny}, Scaled.exponent_at, TrimmedTexts.is_trimmed}
 
 -- ---- Words.
 
@@ -64,7 +64,7 @@ text_after texts pattern = []
 
 abbrev pub word_of : NumberFormatter → CompactStyle → ℕ → List ℕ
 word_of f style i =
-    text_after f.outer (pattern_for (word_key i).category (word_key i).is_one
+    text_after f.outer (pattern_for (word_key i).category (is_single (word_key i))
     (compact_patterns f.formats style (word_key i).magnitude))
 
 abbrev pub power_of : NumberFormatter → ℕ → ℤ

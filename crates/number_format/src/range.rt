@@ -7,4 +7,3 @@ pub(crate) mod format_range;
 pub(crate) mod formatted_range;
 pub(crate) mod range_texts;
 mod segment;
-mod segments;

@@ -38,7 +38,7 @@ fn pop_line_feed(line: &mut Vec<u8>)
 }
 
 impl<R: Read> LineReader<R> {
-    /// Allocates the block before a reader.
+    /// Returns a reader of lines from `reader` that takes bytes into a block, which it allocates.
     ///
     /// # Errors
     ///

@@ -38,7 +38,7 @@ impl<W: Write> Model for BufferedOut<W> {
 }
 
 impl<W: Write + Drop> BufferedOut<W> {
-    /// Allocates the block before a writer.
+    /// Returns a sink over `writer` that collects bytes in a block, which it allocates.
     ///
     /// # Errors
     ///

@@ -94,7 +94,7 @@ fn write_some<W: Write>(writer: &mut W, bytes: &[u8]) -> Result<usize, ErrorKind
     Err(ErrorKind::Other)
 }
 
-/// Writes all bytes, by as many calls of the writer as that takes.
+/// Calls a writer until it has taken all bytes.
 ///
 /// A call that is interrupted is repeated. After a call that fails otherwise, or takes no byte, the writer is not
 /// called again.
@@ -105,7 +105,8 @@ fn write_some<W: Write>(writer: &mut W, bytes: &[u8]) -> Result<usize, ErrorKind
 ///
 /// # Errors
 ///
-/// That call: the writer has taken a prefix of the bytes, whose length is in the error.
+/// The error of the call that failed, or took no byte. The writer has taken a prefix of the bytes, whose length is in
+/// the error.
 pub fn write_whole<W: Write>(writer: &mut W, bytes: &[u8]) -> Result<(), WriteError<W>>
     ensures ok { OnOk result (Appends (W.contents writer.old) (W.contents writer.new) bytes.now) }
     ensures err { IfErr result (λ written.

@@ -255,8 +255,9 @@ impl<'f> OuterAround<'f> {
 pub(crate) fn put_outer<P: PartSink>(
     sink: &mut P,
     kind: PartKind,
-    texts: &[TextPart<'_>; 4],
+    texts: &[TextPart<'_>],
 ) -> Result<(), SinkFault>
+    requires { length texts.now ≤ 4 }
     ensures ok { OnOk result (Puts (P.pieces sink.old) (P.pieces sink.new) (pieces_of kind (parts_text texts.now))) }
     ensures err { OnErr result
         (PutsPrefix (P.pieces sink.old) (P.pieces sink.new) (pieces_of kind (parts_text texts.now))) }

@@ -12,7 +12,7 @@ use locale_data::{
 };
 
 /// An empty part.
-pub(crate) const NOTHING: TextPart<'static> = TextPart {
+const NOTHING: TextPart<'static> = TextPart {
     kind: PartKind::Literal,
     text: "",
 };
@@ -24,6 +24,13 @@ pub(crate) struct WideAffixes<'f> {
     pub(crate) has_number: bool,
     pub(crate) suffix: [TextPart<'f>; 10],
 }
+
+/// The affixes of no number.
+pub(crate) const NO_AFFIXES: WideAffixes<'static> = WideAffixes {
+    prefix: [NOTHING; 10],
+    has_number: false,
+    suffix: [NOTHING; 10],
+};
 
 fn approximately_part(approximately: ApproximatelySign) -> TextPart<'static>
     ensures { part_pieces result ≡ approximately_pieces approximately }

@@ -13,6 +13,7 @@ use locale_data::RangeSeparator;
 pub(crate) struct RangeAround<'r> {
     pub(crate) outer: OuterAround<'r>,
     pub(crate) start: NumberAffixes<'r>,
+    /// The affixes of the second number, if it has its own.
     pub(crate) end: NumberAffixes<'r>,
     /// The affixes of an approximate number, if the range is one.
     pub(crate) approximate: WideAffixes<'r>,

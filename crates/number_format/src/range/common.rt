@@ -1,37 +1,33 @@
 //! What the two numbers of a range have in common.
-ghost use Rattle.std.specs.Prelude.{◌≡◌, ◌*◌, ◌≤◌, length, IsTrue};
-ghost use Rattle.number_format.specs.{FormattedRanges.end_of, RangeText.{are_same_texts, bare_texts, both_or_neither, characters, characters_around, without_spaces}, TextParts.parts_text};
+ghost use Rattle.std.specs.Prelude.{◌≡◌, ◌*◌, ◌≤◌, ◌&&◌, length, IsTrue};
+ghost use Rattle.std.specs.Str.{bytes_eq};
+ghost use Rattle.number_format.specs.{FormattedRanges.end_of, NumberText.AreParts, RangeText.{are_same_texts, bare_around, both_or_neither, characters, characters_around, without_spaces}, TextParts.parts_text};
 
-use crate::format::affixes::StyleTexts;
-use crate::format::currency::ShownCurrency;
+use crate::format::affixes::{NumberAffixes, StyleTexts};
+use crate::format::compact::CompactChoice;
 use crate::format::formatted_number::FormattedNumber;
-use crate::format::short_affixes::ShortAffixes;
+use crate::format::short_affixes::joined;
 use crate::format::text_part::TextPart;
+use arrayvec::ArrayString;
 use fixed_decimal::Sign;
-
-/// The texts around a number, without the spaces between a currency and a digit.
-#[derive(Drop)]
-pub(crate) struct BareTexts {
-    pub(crate) affixes: ShortAffixes<1530>,
-    pub(crate) has_number: bool,
-}
 
 impl StyleTexts {
     fn without_spaces(&self) -> StyleTexts
         ensures { result ≡ without_spaces self.now }
     {
-        let currency = ShownCurrency {
-            space_before: false,
-            space_after: false,
-            ..self.currency
-        };
-        StyleTexts {
-            symbols: self.symbols.copied(),
-            pattern: self.pattern,
-            percent: self.percent,
-            currency,
-        }
+        let mut style = self.copied();
+        style.currency.space_before = false;
+        style.currency.space_after = false;
+        style
     }
+}
+
+/// Returns the parts around a number in its style without the spaces between a currency and a digit.
+fn bare_affixes<'s>(style: &'s StyleTexts, number: &FormattedNumber<'_>) -> NumberAffixes<'s>
+    requires { style.now ≡ without_spaces number.now.formatter.now.style }
+    ensures { AreParts (bare_around (end_of number.now)) result }
+{
+    style.affixes(number.value.sign, number.compact_pattern())
 }
 
 fn characters(text: &str) -> usize
@@ -58,11 +54,11 @@ fn parts_characters(parts: &[TextPart<'_>]) -> usize
 
 /// Returns the number of characters around a number, without the spaces between a currency and a digit.
 pub(crate) fn characters_around(number: &FormattedNumber<'_>) -> usize
-    ensures { result ≡ characters_around (bare_texts (end_of number.now)) }
+    ensures { result ≡ characters_around (bare_around (end_of number.now)) }
 {
     let style = number.formatter.style.without_spaces();
-    let parts = style.affixes(number.value.sign, number.compact_pattern());
-    parts_characters(&parts.prefix) + parts_characters(&parts.suffix)
+    let affixes = bare_affixes(&style, number);
+    parts_characters(&affixes.prefix) + parts_characters(&affixes.suffix)
 }
 
 fn are_same_signs(first: Sign, second: Sign) -> bool
@@ -76,54 +72,63 @@ fn are_same_signs(first: Sign, second: Sign) -> bool
     )
 }
 
+fn are_same_choices(first: CompactChoice, second: CompactChoice) -> bool
+    ensures { IsTrue result → first ≡ second }
+{
+    first.patterns.0.0 == second.patterns.0.0
+        && first.patterns.0.1 == second.patterns.0.1
+        && first.category == second.category
+        && are_both_or_neither(first.is_one, second.is_one)
+}
+
 pub(crate) fn are_both_or_neither(first: bool, second: bool) -> bool
     ensures { result ≡ both_or_neither first second }
 {
     if first { second } else { !second }
 }
 
-impl BareTexts {
-    fn of(number: &FormattedNumber<'_>) -> BareTexts
-        ensures { result ≡ bare_texts (end_of number.now) }
-    {
-        let style = number.formatter.style.without_spaces();
-        let parts = style.affixes(number.value.sign, number.compact_pattern());
-        match ShortAffixes::joined(&parts.prefix, &parts.suffix) {
-            Some(affixes) => BareTexts {
-                affixes,
-                has_number: parts.has_number,
-            },
-            None => unreachable!(),
-        }
-    }
+fn are_same_parts(first: &[TextPart<'_>], second: &[TextPart<'_>]) -> bool
+    requires first { length first.now ≤ 6 }
+    requires second { length second.now ≤ 6 }
+    ensures { result ≡ bytes_eq (parts_text first.now) (parts_text second.now) }
+{
+    let first: ArrayString<1530> = joined(first).unwrap();
+    let second: ArrayString<1530> = joined(second).unwrap();
+    first.as_str().as_bytes() == second.as_str().as_bytes()
+}
 
-    fn are_same(&self, other: &BareTexts) -> bool
-        ensures { result ≡ are_same_texts self.now other.now }
-    {
-        let first = self.affixes.texts();
-        let second = other.affixes.texts();
-        first.prefix.as_bytes() == second.prefix.as_bytes()
-            && first.suffix.as_bytes() == second.suffix.as_bytes()
-            && are_both_or_neither(self.has_number, other.has_number)
-    }
+fn are_same_affixes(first: &NumberAffixes<'_>, second: &NumberAffixes<'_>) -> bool
+    ensures { result ≡ (bytes_eq (parts_text first.now.prefix) (parts_text second.now.prefix)
+        && (bytes_eq (parts_text first.now.suffix) (parts_text second.now.suffix)
+        && both_or_neither first.now.has_number second.now.has_number)) }
+{
+    are_same_parts(&first.prefix, &second.prefix)
+        && are_same_parts(&first.suffix, &second.suffix)
+        && are_both_or_neither(first.has_number, second.has_number)
 }
 
 // Not inlined: the texts differ if the signs or the compact patterns do.
 #[inline(never)]
 fn are_equal_texts(start: &FormattedNumber<'_>, end: &FormattedNumber<'_>) -> bool
-    ensures { result ≡ are_same_texts (bare_texts (end_of start.now)) (bare_texts (end_of end.now)) }
+    requires { start.now.formatter.now ≡ end.now.formatter.now }
+    ensures { result ≡ are_same_texts (bare_around (end_of start.now)) (bare_around (end_of end.now)) }
 {
-    BareTexts::of(start).are_same(&BareTexts::of(end))
+    let style = start.formatter.style.without_spaces();
+    let first = bare_affixes(&style, start);
+    let second = bare_affixes(&style, end);
+    are_same_affixes(&first, &second)
 }
 
 /// Returns whether the same texts are around two numbers of one formatter, without the spaces between a currency and a
-/// digit. The texts are compared only if the signs differ, or in compact notation.
+/// digit. The texts are compared only if the signs differ, or what chooses the compact patterns.
 pub(crate) fn have_same_texts(start: &FormattedNumber<'_>, end: &FormattedNumber<'_>) -> bool
     requires { start.now.formatter.now ≡ end.now.formatter.now }
-    ensures { result ≡ are_same_texts (bare_texts (end_of start.now)) (bare_texts (end_of end.now)) }
+    ensures { result ≡ are_same_texts (bare_around (end_of start.now)) (bare_around (end_of end.now)) }
 {
-    match (start.compact_pattern(), end.compact_pattern()) {
-        (None, None) if are_same_signs(start.value.sign, end.value.sign) => true,
-        _ => are_equal_texts(start, end),
+    if are_same_signs(start.value.sign, end.value.sign)
+        && are_same_choices(start.choice, end.choice)
+    {
+        return true;
     }
+    are_equal_texts(start, end)
 }

@@ -1,6 +1,6 @@
 //! How the two numbers of a range are written.
 ghost use Rattle.std.specs.Prelude.{◌≡◌};
-ghost use Rattle.number_format.specs.{FormattedRanges.end_of, RangeText.{bare_texts, characters_around, form_by, has_exponent, is_apart, needs_spaces, written_exponent}};
+ghost use Rattle.number_format.specs.{FormattedRanges.end_of, RangeText.{bare_around, characters_around, form_by, has_exponent, is_apart, needs_spaces, written_exponent}};
 
 use crate::format::formatted_number::FormattedNumber;
 use crate::options::NumberNotation;
@@ -45,7 +45,7 @@ pub(crate) fn form_by(
     start: &FormattedNumber<'_>,
     end: &FormattedNumber<'_>,
 ) -> RangeForm
-    requires characters { characters ≡ characters_around (bare_texts (end_of start.now)) }
+    requires characters { characters ≡ characters_around (bare_around (end_of start.now)) }
     requires formatter { start.now.formatter.now ≡ end.now.formatter.now }
     ensures { result ≡ form_by are_equal have_same_sign (end_of start.now) (end_of end.now) }
 {
@@ -72,7 +72,7 @@ fn is_apart(form: RangeForm) -> bool
 
 /// Returns whether the separator has spaces beside it, given the number of characters around the first number.
 pub(crate) fn needs_spaces(form: RangeForm, characters: usize, start: &FormattedNumber<'_>) -> bool
-    requires { characters ≡ characters_around (bare_texts (end_of start.now)) }
+    requires { characters ≡ characters_around (bare_around (end_of start.now)) }
     ensures { result ≡ needs_spaces form (end_of start.now) }
 {
     has_exponent(start.formatter.options.notation) || (is_apart(form) && characters > 0)

@@ -1,14 +1,14 @@
 //! A range of two numbers as a locale writes it.
-ghost use Rattle.std.specs.{Prelude.{◌≡◌, ◌≤◌, length, Some, OnOk, OnErr, true}, Fmt.WritesStyledOnOk, Io.KnownBytes.Appends};
-ghost use Rattle.decimal_digits.specs.AppendsPrefix.{AppendsPrefix};
-ghost use Rattle.number_format.specs.{declared.range.form.RangeForm.RangeForm, FormattedRanges.{AreApproximate, formatted_range_pieces, formatted_range_text, segment_pieces, segment_text, source_of, text_from_middle, IsRangeAround}, TextParts.{Puts, PutsPrefix, pieces_text}};
+ghost use Rattle.std.specs.{Prelude.{◌≡◌, Some, OnOk, OnErr, true}, Fmt.WritesStyledOnOk};
+ghost use Rattle.number_format.specs.{declared.range.form.RangeForm.RangeForm, FormattedNumbers.around_of, FormattedRanges.{AreApproximate, bare_pieces, formatted_range_pieces, formatted_range_text, inner_range_pieces, segment_pieces, segment_text, segments_text, source_of, text_from_middle, IsRangeAround}, NumberText.AreParts, TextParts.{Puts, PutsPrefix, pieces_text}};
 
+use crate::format::affixes::NumberAffixes;
 use crate::format::formatted_number::FormattedNumber;
 use crate::format::parts::PartSink;
-use crate::range::affixes::{NOTHING, WideAffixes};
+use crate::range::affixes::{NO_AFFIXES, WideAffixes};
 use crate::range::around::{RangeAround, separator_parts};
 use crate::range::form::RangeForm;
-use crate::range::segment::Segment;
+use crate::range::segment::{Segment, Segments};
 use fixed_decimal::{Sink, SinkFault, Writeable};
 use locale_data::RangeFormat;
 use std::fmt;
@@ -90,101 +90,76 @@ impl<'f> Drop for FormattedRange<'f> {
 }
 
 impl<'f> FormattedRange<'f> {
-    #[inline(always)]
     fn approximate_affixes(&self) -> WideAffixes<'_>
         ensures { self.now.form ≡ RangeForm.Approximate → AreApproximate self.now result }
     {
         match self.form {
             RangeForm::Approximate => self.start.approximate_affixes(self.format.approximately),
-            _ => WideAffixes {
-                prefix: [NOTHING; 10],
-                has_number: false,
-                suffix: [NOTHING; 10],
-            },
+            _ => NO_AFFIXES,
         }
     }
 
-    #[inline(always)]
+    fn end_affixes<'r>(&'r self, start: NumberAffixes<'r>) -> NumberAffixes<'r>
+        ensures { self.now.form ≡ RangeForm.Apart → AreParts (around_of self.now.end) result }
+    {
+        match self.form {
+            RangeForm::Apart => self.end.affixes(),
+            _ => start,
+        }
+    }
+
     fn around(&self) -> RangeAround<'_>
         ensures { IsRangeAround self.now result }
     {
+        let start = self.start.affixes();
         RangeAround {
             outer: self.start.outer_around(),
-            start: self.start.affixes(),
-            end: self.end.affixes(),
+            start,
+            end: self.end_affixes(start),
             approximate: self.approximate_affixes(),
             separator: separator_parts(self.format.separator, self.spaced),
         }
     }
 
-    fn approximate_segment<'r>(
+    /// Returns a segment without what is around the whole text.
+    fn inner_segment<'r>(
         &'r self,
         around: &'r RangeAround<'r>,
         segment: RangeSegment,
     ) -> Segment<'r, 'f>
-        requires form { self.now.form ≡ RangeForm.Approximate }
-        requires around { IsRangeAround self.now around.now }
-        ensures { segment_pieces result ≡ formatted_range_pieces self.now segment }
+        requires { IsRangeAround self.now around.now }
+        ensures { bare_pieces result ≡ inner_range_pieces self.now segment }
     {
-        let outer = &around.outer;
-        let start = &self.start;
-        let wide = &around.approximate;
-        match segment {
-            RangeSegment::Prefix => Segment::with_outer(start, &[], outer.kind, &outer.before),
-            RangeSegment::Middle if outer.has_number => {
-                Segment::between(&wide.prefix, start, wide.has_number, &wide.suffix)
-            }
-            RangeSegment::Suffix => Segment::with_outer(start, &[], outer.kind, &outer.after),
-            _ => Segment::digits_if(start, false),
-        }
-    }
-
-    fn common_segment<'r>(
-        &'r self,
-        around: &'r RangeAround<'r>,
-        segment: RangeSegment,
-    ) -> Segment<'r, 'f>
-        requires form { self.now.form ≡ RangeForm.Common }
-        requires around { IsRangeAround self.now around.now }
-        ensures { segment_pieces result ≡ formatted_range_pieces self.now segment }
-    {
-        let outer = &around.outer;
-        let affixes = &around.start;
-        let start = &self.start;
-        let shown = outer.has_number && affixes.has_number;
-        match segment {
-            RangeSegment::Prefix => {
-                let prefix = &affixes.prefix;
-                Segment::with_outer(start, prefix, outer.kind, &outer.before)
-            }
-            RangeSegment::Start => Segment::digits_if(start, shown),
-            RangeSegment::Middle => Segment::parts_if(start, &around.separator, shown),
-            RangeSegment::End => Segment::digits_if(&self.end, shown),
-            RangeSegment::Suffix if outer.has_number => {
-                Segment::with_outer(start, &affixes.suffix, outer.kind, &outer.after)
-            }
-            RangeSegment::Suffix => Segment::with_outer(start, &[], outer.kind, &outer.after),
-        }
-    }
-
-    fn apart_segment<'r>(
-        &'r self,
-        around: &'r RangeAround<'r>,
-        segment: RangeSegment,
-    ) -> Segment<'r, 'f>
-        requires form { self.now.form ≡ RangeForm.Apart }
-        requires around { IsRangeAround self.now around.now }
-        ensures { segment_pieces result ≡ formatted_range_pieces self.now segment }
-    {
-        let outer = &around.outer;
-        let start = &self.start;
-        let shown = outer.has_number;
-        match segment {
-            RangeSegment::Prefix => Segment::with_outer(start, &[], outer.kind, &outer.before),
-            RangeSegment::Start => Segment::number_if(start, &around.start, shown),
-            RangeSegment::Middle => Segment::parts_if(start, &around.separator, shown),
-            RangeSegment::End => Segment::number_if(&self.end, &around.end, shown),
-            RangeSegment::Suffix => Segment::with_outer(start, &[], outer.kind, &outer.after),
+        let (start, end) = (&self.start, &self.end);
+        let (affixes, separator) = (&around.start, &around.separator);
+        match self.form {
+            RangeForm::Approximate => match segment {
+                RangeSegment::Middle => {
+                    let affixes = &around.approximate;
+                    Segment::between(&affixes.prefix, start, affixes.has_number, &affixes.suffix)
+                }
+                _ => Segment::between(&[], start, false, &[]),
+            },
+            RangeForm::Common => match segment {
+                RangeSegment::Prefix => Segment::between(&affixes.prefix, start, false, &[]),
+                RangeSegment::Start => Segment::between(&[], start, affixes.has_number, &[]),
+                RangeSegment::Middle => {
+                    Segment::between(separator, start, false, &[]).if_shown(affixes.has_number)
+                }
+                RangeSegment::End => Segment::between(&[], end, affixes.has_number, &[]),
+                RangeSegment::Suffix => Segment::between(&[], start, false, &affixes.suffix),
+            },
+            RangeForm::Apart => match segment {
+                RangeSegment::Start => {
+                    Segment::between(&affixes.prefix, start, affixes.has_number, &affixes.suffix)
+                }
+                RangeSegment::Middle => Segment::between(separator, start, false, &[]),
+                RangeSegment::End => {
+                    let affixes = &around.end;
+                    Segment::between(&affixes.prefix, end, affixes.has_number, &affixes.suffix)
+                }
+                _ => Segment::between(&[], start, false, &[]),
+            },
         }
     }
 
@@ -193,35 +168,32 @@ impl<'f> FormattedRange<'f> {
         ensures pieces { segment_pieces result ≡ formatted_range_pieces self.now segment }
         ensures text { segment_text result ≡ pieces_text (formatted_range_pieces self.now segment) }
     {
-        match self.form {
-            RangeForm::Approximate => self.approximate_segment(around, segment),
-            RangeForm::Common => self.common_segment(around, segment),
-            RangeForm::Apart => self.apart_segment(around, segment),
+        let outer = &around.outer;
+        let inner = self.inner_segment(around, segment);
+        match segment {
+            RangeSegment::Prefix => inner.with_outer(outer.kind, &outer.before),
+            RangeSegment::Suffix => {
+                let suffix = inner.if_shown(outer.has_number);
+                suffix.with_outer(outer.kind, &outer.after)
+            }
+            _ => {
+                let number = inner.if_shown(outer.has_number);
+                number.with_outer(outer.kind, &[])
+            }
         }
     }
 
-    fn segment_length(&self, around: &RangeAround<'_>, segment: RangeSegment) -> usize
+    fn segments<'r>(&'r self, around: &'r RangeAround<'r>) -> Segments<'r, 'f>
         requires { IsRangeAround self.now around.now }
-        ensures value { result ≡ length (pieces_text (formatted_range_pieces self.now segment)) }
-        ensures at_most { result ≤ 17243363 }
+        ensures { segments_text result ≡ formatted_range_text self.now }
     {
-        self.segment(around, segment).length()
-    }
-
-    fn write_segment<W: Sink>(
-        &self,
-        around: &RangeAround<'_>,
-        segment: RangeSegment,
-        sink: &mut W,
-    ) -> Result<(), SinkFault>
-        requires { IsRangeAround self.now around.now }
-        ensures ok { OnOk result (Appends (W.contents sink.old) (W.contents sink.new)
-            (pieces_text (formatted_range_pieces self.now segment))) }
-        ensures err { OnErr result (AppendsPrefix (W.contents sink.old) (W.contents sink.new)
-            (pieces_text (formatted_range_pieces self.now segment))) }
-        ensures failed { OnErr result (W.has_failed sink.new ≡ true) }
-    {
-        self.segment(around, segment).write(sink)
+        Segments {
+            prefix: self.segment(around, RangeSegment::Prefix),
+            start: self.segment(around, RangeSegment::Start),
+            middle: self.segment(around, RangeSegment::Middle),
+            end: self.segment(around, RangeSegment::End),
+            suffix: self.segment(around, RangeSegment::Suffix),
+        }
     }
 
     fn fmt_segment<W: fmt::Write>(
@@ -293,21 +265,23 @@ impl<'f> Writeable for FormattedRange<'f> {
             return Err(SinkFault);
         }
         let around = self.around();
-        self.write_segment(&around, RangeSegment::Prefix, sink)?;
-        self.write_segment(&around, RangeSegment::Start, sink)?;
-        self.write_segment(&around, RangeSegment::Middle, sink)?;
-        self.write_segment(&around, RangeSegment::End, sink)?;
-        self.write_segment(&around, RangeSegment::Suffix, sink)
+        let segments = self.segments(&around);
+        segments.prefix.write(sink)?;
+        segments.start.write(sink)?;
+        segments.middle.write(sink)?;
+        segments.end.write(sink)?;
+        segments.suffix.write(sink)
     }
 
     /// Returns the exact number of bytes of the text.
     fn writeable_length_hint(&self) -> usize {
         let around = self.around();
-        self.segment_length(&around, RangeSegment::Prefix)
-            + self.segment_length(&around, RangeSegment::Start)
-            + self.segment_length(&around, RangeSegment::Middle)
-            + self.segment_length(&around, RangeSegment::End)
-            + self.segment_length(&around, RangeSegment::Suffix)
+        let segments = self.segments(&around);
+        segments.prefix.length()
+            + segments.start.length()
+            + segments.middle.length()
+            + segments.end.length()
+            + segments.suffix.length()
     }
 }
 

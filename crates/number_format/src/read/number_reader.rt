@@ -35,9 +35,9 @@ pub enum NumberReaderError {
     /// - The notation is scientific or engineering, and a unit or the name of a currency is written; or the sign of the
     ///   exponent is never written; or the text before the exponent begins with a digit or a separator, or one of these
     ///   with it.
-    /// - The notation is compact, and a word stands without a number, as `mille` for 1000 in Italian: it is chosen by
-    ///   a plural category. A word for the number 1 itself, as `mille` in French, is read if it has no digit, and no
-    ///   other sign or power of ten has the same text.
+    /// - The notation is compact, and a word is written without a number that is not of 1 alone. `mille` in French and
+    ///   in Italian are of 1 alone: the one by its pattern, the other by its plural category. Such a word is read if it
+    ///   has no digit, and no other sign or power of ten has the same text.
     Notation,
     /// The unit has a text without a number for numbers of a plural category: in Arabic `يومان` is two days.
     NoNumber(PluralCategory),

@@ -19,34 +19,34 @@ pub returns-then-has_failed-clause-ends : goal.returns-then-has_failed-clause-en
 returns-then-has_failed-clause-ends g c =
     let words = c.in-Ok.started.0.items in
     let buffer = c.in-Ok-with_capacity in
-    let zero : c.program-status.result ≡ 0 = search rules in
+    let zero : c.run_words-status.result ≡ 0 = search rules in
     let empty : writer_contents g.O.Write.contents buffer.buffer ≡ g.O.Write.contents c.args.out =
     new_writer g.O.Write.contents buffer.buffer c.args.out (search rules) buffer.ensures.empty in
     let printed =
-    rw (c.new-buffered.ensures, empty, c.as_slice.ensures.value) at (c.program-status.ensures.printed zero) in
+    rw (c.new-buffered.ensures, empty, c.as_slice.ensures.value) at (c.run_words-status.ensures.printed zero) in
     let (unwritten, keeps) = c.close-closed.ensures.prefix in
     let (fails, prefix) = unwritten_fails words _ _ _ printed keeps in
     let failed : c.close-closed.result.1 ≡ true = search rules in (
       Err Output,
       inr (have_words Fixdec c.args.arguments words _ c.in-Ok.ensures.words
           (fails, (λ other. absurd (other refl)), λ _. (failed, (unwritten, prefix)))),
-      rw (c.program-status.ensures.silent zero) at c.conclude-then-has_failed.ensures.concludes,
+      rw (c.run_words-status.ensures.silent zero) at c.conclude-then-has_failed.ensures.concludes,
     )
 
 pub returns-clause-ends : goal.returns-clause-ends
 returns-clause-ends g c =
     let words = c.in-Ok.started.0.items in
     let buffer = c.in-Ok-with_capacity in
-    let zero : c.program-status.result ≡ 0 = search rules in
+    let zero : c.run_words-status.result ≡ 0 = search rules in
     let empty : writer_contents g.O.Write.contents buffer.buffer ≡ g.O.Write.contents c.args.out =
     new_writer g.O.Write.contents buffer.buffer c.args.out (search rules) buffer.ensures.empty in
     let printed =
-    rw (c.new-buffered.ensures, empty, c.as_slice.ensures.value) at (c.program-status.ensures.printed zero) in
+    rw (c.new-buffered.ensures, empty, c.as_slice.ensures.value) at (c.run_words-status.ensures.printed zero) in
     let written : c.close-closed.result.1 ≡ false = search rules in
     let kept = prints_kept words _ _ _ printed (c.close-closed.ensures.written written) in (
       Ok true,
       inr (have_words Fixdec c.args.arguments words _ c.in-Ok.ensures.words (refl, written, kept)),
-      (refl, c.program-status.ensures.silent zero),
+      (refl, c.run_words-status.ensures.silent zero),
     )
 
 pub returns-then-status-ne0-clause-ends : goal.returns-then-status-ne0-clause-ends
@@ -57,10 +57,10 @@ returns-then-status-ne0-clause-ends g c =
     let inner : writer_inner buffer.buffer ≡ c.args.out = search rules in
     let empty : writer_contents contents buffer.buffer ≡ contents c.args.out =
     new_writer contents buffer.buffer c.args.out inner buffer.ensures.empty in
-    let out = c.program-status.new.out in
-    let some : 0 < c.program-status.result = search rules in
+    let out = c.run_words-status.new.out in
+    let some : 0 < c.run_words-status.result = search rules in
     let (error, status, has, reported, same, output) =
-    rw c.as_slice.ensures.value at (c.program-status.ensures.reported some) in
+    rw c.as_slice.ensures.value at (c.run_words-status.ensures.reported some) in
     let closed : error ≢ Output → (writer_inner out.0, out.1) ≡ (c.args.out, false) = λ other.
     rw (same other ∙ c.new-buffered.ensures, inner) refl in
     let prefix : error ≡ Output → (out.1 ≡ true)

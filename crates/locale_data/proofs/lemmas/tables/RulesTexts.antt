@@ -63,7 +63,7 @@ has_rules id set at = by id.language id.rule_type at
     by (Some index) rule_type e = each index rule_type (slice_get PLURAL_RULES index) refl e
 
 -- so the text is rules
-rules_of_set : (id : PluralRulesId) (set : RuleSet) → set_at id ≡ Some set
+pub rules_of_set : (id : PluralRulesId) (set : RuleSet) → set_at id ≡ Some set
     → Grammar (text_of set) (rules_in set.rules) × Fits (rules_in set.rules)
 rules_of_set id set at =
     let fits = read_fits (text_of set) (rules_in set.rules) (has_rules id set at) in

@@ -1,6 +1,6 @@
 -- The texts of segments of ranges.
 use Rattle.std.proofs.Common.{◌≡◌, ◌++◌, ◌∙◌}
-use Rattle.number_format.specs.{declared.range.segment.Segment.Segment, FormattedNumbers.{number_pieces, number_pieces_if, number_text, number_text_if}, FormattedRanges.{outer_text, segment_pieces, segment_text}, TextParts.{parts_pieces, parts_text, pieces_of, pieces_text}}
+use Rattle.number_format.specs.{declared.range.segment.Segment.Segment, FormattedNumbers.{number_pieces, number_pieces_if, number_text, number_text_if}, FormattedRanges.{segment_pieces, segment_text}, TextParts.{parts_pieces, parts_text, pieces_of, pieces_text}}
 use Rattle.number_format.proofs.lemmas.format.PieceTexts.{text-append, text-if, text-of, text-of_number, text-of_parts, text-three}
 
 -- the text of the pieces of a segment
@@ -8,7 +8,7 @@ pub text-of_segment : (s : Segment) → pieces_text (segment_pieces s) ≡ segme
 text-of_segment s =
     let n = s.number.now in
     let suffix = s.suffix.now in
-    let outer = outer_text s in
+    let outer = parts_text s.outer.now in
     let outer_pieces = pieces_of s.kind outer in
     text-three (parts_pieces s.prefix.now) (number_pieces_if n s.has_number) (parts_pieces suffix ++ outer_pieces)
     (parts_text s.prefix.now) (number_text_if n s.has_number) (parts_text suffix ++ outer)

@@ -1,12 +1,12 @@
 -- Each key of compact notation has the texts of one of the magnitudes 2 to 19.
-use Rattle.std.proofs.{Common.{◌≡◌, ℕ, suc, ◌+◌, ◌-◌, ◌*◌, ◌/◌, ◌%◌, ◌<◌, ◌≤◌, ◌==◌, ◌&&◌, Bool, true, false, nat_lt, cond, List, [], ◌∷◌, ◌++◌, refl, sym, ◌∙◌, ap, subst, arith}, lemmas.{Bool.{and_parts, Decides.nat_tests}, Int.{ints, clamps}}}
-use Rattle.std.specs.{Prelude.{find, Option, Some, None, is_none, slice_get, slice_index, option_and_then, if◌then◌else◌, ℤ, pos, unsigned_abs, ◌-ℤ◌, int_lt, int_le}, Int.{int_max, int_min}, List.{list_all, Contains}, Option.{option_map_or, option_or}}
+use Rattle.std.proofs.{Common.{◌≡◌, ℕ, inl, inr, suc, ◌+◌, ◌-◌, ◌*◌, ◌/◌, ◌%◌, ◌<◌, ◌≤◌, ◌==◌, ◌&&◌, Bool, true, false, nat_lt, cond, List, [], ◌∷◌, ◌++◌, refl, sym, ◌∙◌, ap, subst, arith}, lemmas.{Bool.{and_parts, Decides.nat_tests}, Int.{ints, clamps}}}
+use Rattle.std.specs.{Prelude.{find, Option, Some, None, is_none, slice_get, slice_index, option_and_then, if◌then◌else◌, ℤ, pos, unsigned_abs, ◌-ℤ◌, int_lt, int_le, not}, Int.{int_max, int_min}, List.{list_all, Contains}, Option.{option_map_or, option_or}}
 use Rattle.fixed_decimal.specs.declared.variations.Sign.{Sign}
 use Rattle.plural_rules.specs.declared.rules.PluralCategory.{PluralCategory}
 use Rattle.decimal_format.specs.Symbols.{affixes}
 use Rattle.locale_data.specs.{declared.{tables.{rows.{compact.{CompactPattern.CompactPattern, CompactRun.CompactRun}}, compact.TheConstants.{COMPACT_RUNS, COMPACT_SETS, COMPACT_PATTERNS}}, compact.CompactStyle.CompactStyle, number_formats.NumberFormats.NumberFormats}, Compact.{compact_patterns, count_code, pattern_for, pattern_with, rows_of, run_at}, Rows.part}
 use Rattle.locale_data.proofs.lemmas.tables.{EachRow.passes, TableTexts.contains-part}
-use Rattle.number_format.specs.{declared.{format.formatter.NumberFormatter.NumberFormatter, notation.{CompactExponents.CompactExponents, Notation.Notation}, read.{compact.keys.CompactKey.CompactKey, pattern.NumberPattern.NumberPattern}}, CompactReading.{inner_at, key_at, category_at, sign_at, is_for_other, is_of_one, is_of_other, AreAlike, HasCompactExponents, IsSameBefore, RepeatsAnother}, NumberReading.words_of, NumberText.{around_by, has_categories, outer_by}, PatternTexts.Around, Scaled.{compact_exponent, exponent_at}, TextParts.pieces_text}
+use Rattle.number_format.specs.{declared.{format.formatter.NumberFormatter.NumberFormatter, notation.{CompactExponents.CompactExponents, Notation.Notation}, read.{compact.keys.CompactKey.CompactKey, pattern.NumberPattern.NumberPattern}}, CompactReading.{inner_at, is_single, key_at, category_at, sign_at, is_for_other, is_of_one, is_of_other, AreAlike, HasCompactExponents, IsSameBefore, RepeatsAnother}, NumberReading.words_of, NumberText.{around_by, has_categories, is_negative, outer_by}, PatternTexts.Around, Scaled.{compact_exponent, exponent_at}, TextParts.pieces_text}
 use Rattle.number_format.proofs.lemmas.format.OuterChoices.{same_outer}
 
 -- ---- Magnitudes.
@@ -71,11 +71,15 @@ pattern_by outer inner sign exponent = record {
 pub alike_by : (f : NumberFormatter) (style : CompactStyle) (k l : CompactKey)
     → inner_at f style k ≡ inner_at f style l → outer_by f k.whole ≡ outer_by f l.whole → k.sign ≡ l.sign
     → exponent_at f.notation k.magnitude ≡ exponent_at f.notation l.magnitude
-    → (k.is_one ≡ true → l.is_one ≡ true) → AreAlike f style k l
-alike_by f style k l inner outer sign exponent one = record {
+    → (is_single k ≡ true → is_single l ≡ true) → (k.category ≡ PluralCategory.One → l.category ≡ PluralCategory.One)
+    → AreAlike f style k l
+alike_by f style k l inner outer sign exponent single category = record {
   pattern = λ i. pattern_by (outer i) (inner i) (sign i) (exponent i);
   has_number = ap (λ (a : Around). a.has_number) inner;
-  one = one;
+  one = λ one. elim one [
+    | inl by_pattern ↦ inl (single by_pattern)
+    | inr by_category ↦ inr (category by_category.0, by_category.1)
+  ];
 }
 
 abbrev pub code : PluralCategory → ℕ
@@ -134,7 +138,7 @@ digits_of a b o w s ha hb ho hw hs = record {
 -- each key has the texts of one with an index
 pub index_of : (f : NumberFormatter) (style : CompactStyle) → HasCompactExponents f.notation
     → (k : CompactKey)
-    → (i : ℕ) × (i < 3888) × AreAlike f style (key_at i) k × ((key_at i).is_one ≡ k.is_one)
+    → (i : ℕ) × (i < 3888) × AreAlike f style (key_at i) k
 index_of f style exponents k =
     let m = clamped k.magnitude in
     let a = unsigned_abs (m -ℤ pos 2) in
@@ -148,18 +152,18 @@ index_of f style exponents k =
     let magnitude : pos (i / 216 + 2) ≡ m = omega (arith, ints, clamps, is.magnitude) in
     let category = ap category_at is.category ∙ c.1 in
     let one = ap (λ n. n == 1) is.one ∙ o.1 in
-    let sign = ap sign_at is.sign ∙ s.1 in (
+    let sign = ap sign_at is.sign ∙ s.1 in
+    let single : is_single (key_at i) ≡ is_single k = (λ j. one j && not (is_negative (sign j))) in (
       i,
       is.below,
       alike_by f style (key_at i) k
           ((λ j. around_by f.style (sign j)
-          (pattern_for (category j) (one j) (compact_patterns f.formats style (magnitude j))))
-          ∙ ap (λ ps. around_by f.style k.sign (pattern_for k.category k.is_one ps))
+          (pattern_for (category j) (single j) (compact_patterns f.formats style (magnitude j))))
+          ∙ ap (λ ps. around_by f.style k.sign (pattern_for k.category (is_single k) ps))
           (sym (same_patterns f.formats style k.magnitude)))
           (ap (λ n. outer_by f (category_at n)) is.whole ∙ ap (outer_by f) w.1) sign
           (ap (exponent_at f.notation) magnitude ∙ sym (same_exponent_at f.notation exponents k.magnitude))
-          (λ e. sym one ∙ e),
-      one,
+          (λ e. sym single ∙ e) (λ e. sym category ∙ e),
     )
 
 -- ---- Patterns of other numbers.
@@ -232,9 +236,10 @@ same_as_other ps c is_one is = go _ _ _ (exact is_one) own is
     go None None z none other is = or_itself z
 
 -- a pattern that is not for 1 itself is the same with 1 and without it
-same_as_category : (ps : List CompactPattern) (c : PluralCategory) → is_of_one (pattern_for c true ps) ≡ false
-    → pattern_for c true ps ≡ pattern_for c false ps
-same_as_category ps c is = go _ (λ p e. counts_one p.count (counted None ps p e)) is
+same_as_category : (ps : List CompactPattern) (c : PluralCategory) (is_one : Bool)
+    → is_of_one (pattern_for c is_one ps) ≡ false → pattern_for c is_one ps ≡ pattern_for c false ps
+same_as_category ps c false is = refl
+same_as_category ps c true is = go _ (λ p e. counts_one p.count (counted None ps p e)) is
   where
     go : (x : Option CompactPattern) → ((p : CompactPattern) → x ≡ Some p → is_none p.count ≡ true)
         → is_of_one (option_or (option_or x (pattern_with (Some c) ps)) (pattern_with (Some PluralCategory.Other) ps))
@@ -247,8 +252,12 @@ same_as_category ps c is = go _ (λ p e. counts_one p.count (counted None ps p e
 -- ---- Keys that repeat another.
 
 -- a key that is not for 1 itself
-not_one : (n : ℕ) → n ≡ 0 → (b : Bool) → (n == 1) ≡ true → b ≡ true
-not_one n is b one = absurd (let e = ap (λ n. n == 1) (sym is) ∙ one in cc)
+not_one : (n : ℕ) → n ≡ 0 → (s b : Bool) → ((n == 1) && s) ≡ true → b ≡ true
+not_one n is s b one = absurd (let e = ap (λ n. (n == 1) && s) (sym is) ∙ one in cc)
+
+-- nor for the category of the other numbers
+not_other : (n : ℕ) → n ≡ 0 → (c : PluralCategory) → category_at n ≡ PluralCategory.One → c ≡ PluralCategory.One
+not_other n is c one = absurd (let e = ap category_at (sym is) ∙ one in cc)
 
 module _ (f : NumberFormatter) (style : CompactStyle) (i : ℕ) where
   pub same_in_row : 216 ≤ i → IsSameBefore f style (key_at i).magnitude → AreAlike f style (key_at (i - 216)) (key_at i)
@@ -260,18 +269,20 @@ module _ (f : NumberFormatter) (style : CompactStyle) (i : ℕ) where
       let one : j % 36 / 18 ≡ i % 36 / 18 = omega (arith, from) in
       let whole : j % 18 / 3 ≡ i % 18 / 3 = omega (arith, from) in
       let sign : j % 3 ≡ i % 3 = omega (arith, from) in
+      let single : is_single (key_at j) ≡ is_single k = (λ n. (one n == 1) && not (is_negative (sign_at (sign n)))) in
       alike_by f style (key_at j) k
       ((λ n. around_by f.style (sign_at (sign n))
-      (pattern_for (category_at (category n)) (one n == 1) (compact_patterns f.formats style (magnitude n))))
-      ∙ ap (λ ps. around_by f.style k.sign (pattern_for k.category k.is_one ps)) (sym same.0))
+      (pattern_for (category_at (category n)) (single n) (compact_patterns f.formats style (magnitude n))))
+      ∙ ap (λ ps. around_by f.style k.sign (pattern_for k.category (is_single k) ps)) (sym same.0))
       (ap (λ n. outer_by f (category_at n)) whole) (ap sign_at sign)
-      (ap (exponent_at f.notation) magnitude ∙ sym same.1) (λ e. ap (λ n. n == 1) (sym one) ∙ e)
+      (ap (exponent_at f.notation) magnitude ∙ sym same.1) (λ e. sym single ∙ e)
+      (λ e. ap category_at (sym category) ∙ e)
 
   pub repeats_magnitude : 216 ≤ i → IsSameBefore f style (key_at i).magnitude → RepeatsAnother f style i
   repeats_magnitude from same = (i - 216, omega (arith, from), same_in_row from same)
 
   pub repeats_other : 18 ≤ i % 216
-      → is_of_other (pattern_for (key_at i).category (key_at i).is_one
+      → is_of_other (pattern_for (key_at i).category (is_single (key_at i))
       (compact_patterns f.formats style (key_at i).magnitude)) ≡ true
       → RepeatsAnother f style i
   repeats_other from is =
@@ -286,15 +297,18 @@ module _ (f : NumberFormatter) (style : CompactStyle) (i : ℕ) where
         j,
         omega (arith, from),
         alike_by f style (key_at j) k
-            ((λ n. around_by f.style (sign_at (sign n)) (pattern_for (category_at (category n)) (one n == 1)
+            ((λ n. around_by f.style (sign_at (sign n)) (pattern_for (category_at (category n))
+            ((one n == 1) && not (is_negative (sign_at (sign n))))
             (compact_patterns f.formats style (pos (magnitude n + 2)))))
-            ∙ ap (around_by f.style k.sign) (sym (same_as_other ps k.category k.is_one is)))
+            ∙ ap (around_by f.style k.sign) (sym (same_as_other ps k.category (is_single k) is)))
             (ap (λ n. outer_by f (category_at n)) whole) (ap sign_at sign)
-            (ap (λ n. exponent_at f.notation (pos (n + 2))) magnitude) (not_one (j % 36 / 18) one k.is_one),
+            (ap (λ n. exponent_at f.notation (pos (n + 2))) magnitude)
+            (not_one (j % 36 / 18) one (not (is_negative (sign_at (j % 3)))) (is_single k))
+            (not_other (j % 216 / 36) category k.category),
       )
 
   pub repeats_one : 18 ≤ i % 36
-      → is_of_one (pattern_for (key_at i).category (key_at i).is_one
+      → is_of_one (pattern_for (key_at i).category (is_single (key_at i))
       (compact_patterns f.formats style (key_at i).magnitude)) ≡ false
       → RepeatsAnother f style i
   repeats_one from is =
@@ -305,19 +319,18 @@ module _ (f : NumberFormatter) (style : CompactStyle) (i : ℕ) where
       let category : j % 216 / 36 ≡ i % 216 / 36 = omega (arith, from) in
       let one : j % 36 / 18 ≡ 0 = omega (arith, from) in
       let whole : j % 18 / 3 ≡ i % 18 / 3 = omega (arith, from) in
-      let sign : j % 3 ≡ i % 3 = omega (arith, from) in
-      let last : i % 36 / 18 ≡ 1 = omega (arith, from) in
-      let is_one : k.is_one ≡ true = ap (λ n. n == 1) last in (
+      let sign : j % 3 ≡ i % 3 = omega (arith, from) in (
         j,
         omega (arith, from),
         alike_by f style (key_at j) k
-            ((λ n. around_by f.style (sign_at (sign n)) (pattern_for (category_at (category n)) (one n == 1)
+            ((λ n. around_by f.style (sign_at (sign n)) (pattern_for (category_at (category n))
+            ((one n == 1) && not (is_negative (sign_at (sign n))))
             (compact_patterns f.formats style (pos (magnitude n + 2)))))
-            ∙ ap (around_by f.style k.sign) (sym (same_as_category ps k.category
-            (ap (λ b. is_of_one (pattern_for k.category b ps)) (sym is_one) ∙ is)))
-            ∙ ap (λ b. around_by f.style k.sign (pattern_for k.category b ps)) (sym is_one))
+            ∙ ap (around_by f.style k.sign) (sym (same_as_category ps k.category (is_single k) is)))
             (ap (λ n. outer_by f (category_at n)) whole) (ap sign_at sign)
-            (ap (λ n. exponent_at f.notation (pos (n + 2))) magnitude) (not_one (j % 36 / 18) one k.is_one),
+            (ap (λ n. exponent_at f.notation (pos (n + 2))) magnitude)
+            (not_one (j % 36 / 18) one (not (is_negative (sign_at (j % 3)))) (is_single k))
+            (λ e. ap category_at (sym category) ∙ e),
       )
 
   -- what is around the whole text does not depend on the category
@@ -328,13 +341,15 @@ module _ (f : NumberFormatter) (style : CompactStyle) (i : ℕ) where
       let magnitude : j / 216 ≡ i / 216 = omega (arith, from) in
       let category : j % 216 / 36 ≡ i % 216 / 36 = omega (arith, from) in
       let one : j % 36 / 18 ≡ i % 36 / 18 = omega (arith, from) in
-      let sign : j % 3 ≡ i % 3 = omega (arith, from) in (
+      let sign : j % 3 ≡ i % 3 = omega (arith, from) in
+      let single : is_single (key_at j) ≡ is_single k =
+      (λ n. (one n == 1) && not (is_negative (sign_at (sign n)))) in (
         j,
         omega (arith, from),
         alike_by f style (key_at j) k
-            (λ n. around_by f.style (sign_at (sign n)) (pattern_for (category_at (category n)) (one n == 1)
+            (λ n. around_by f.style (sign_at (sign n)) (pattern_for (category_at (category n)) (single n)
             (compact_patterns f.formats style (pos (magnitude n + 2)))))
             (same_outer f.formats f.outer (words_of f) f.options.style (key_at j).whole k.whole none)
-            (ap sign_at sign)
-            (ap (λ n. exponent_at f.notation (pos (n + 2))) magnitude) (λ e. ap (λ n. n == 1) (sym one) ∙ e),
+            (ap sign_at sign) (ap (λ n. exponent_at f.notation (pos (n + 2))) magnitude) (λ e. sym single ∙ e)
+            (λ e. ap category_at (sym category) ∙ e),
       )

@@ -187,7 +187,6 @@ module _ (f : NumberFormatter) (style : CompactStyle) where
       λ all k is.
           let i = index_of f style exponents k in
           let at = all i.0 i.1 (record {
-            one = i.3 ∙ is.one;
             none = i.2.has_number ∙ is.none;
             same = is.same ∙ ap whole_text (sym i.2.pattern);
           }) in (

@@ -1,15 +1,17 @@
 -- What a formatter writes in compact notation is read back by its reader.
-use Rattle.std.proofs.{Common.{◌≡◌, ◌==◌, ℕ, zero, suc, Bool, true, false, List, [], ◌++◌, inl, inr, refl, sym, ◌∙◌, ap, subst, arith, append-nil}, lemmas.{Bool.{and_parts, Decides.nat_tests}, Int.{ints, clamps}}}
-use Rattle.std.specs.{Prelude.{◌⊎◌, Option, Some, None, Result, Ok, Err, MatchResult, if◌then◌else◌, ℤ, pos, unsigned_abs, ◌+ℤ◌, ◌-ℤ◌, ◌≤ℤ◌, int_lt}, Int.{int_min}}
+use Rattle.std.proofs.{Common.{◌≡◌, ◌==◌, ◌&&◌, ℕ, zero, suc, Bool, true, false, List, [], ◌++◌, inl, inr, refl, sym, ◌∙◌, ap, subst, arith, append-nil}, lemmas.{Bool.{and_parts, Decides.nat_tests}, Int.{ints, clamps}}}
+use Rattle.std.specs.{Prelude.{◌⊎◌, Option, Some, None, Result, Ok, Err, MatchResult, if◌then◌else◌, not, ℤ, pos, unsigned_abs, ◌+ℤ◌, ◌-ℤ◌, ◌≤ℤ◌, int_lt}, Int.{int_min}}
 use Rattle.decimal_digits.specs.Number.{first}
 use Rattle.decimal_unsigned.specs.{Unsigned.{IsValue, one_value}, declared.error.ParseError.{ParseError, TheVariants.Memory}}
-use Rattle.fixed_decimal.specs.{Decimal.Decimal, declared.variations.Sign.Sign}
+use Rattle.fixed_decimal.specs.{Decimal.{Decimal, displayed_sign}, declared.variations.{Sign.Sign, SignDisplay.SignDisplay}}
+use Rattle.fixed_decimal.specs.declared.variations.SignDisplay.TheVariants as display
 use Rattle.fixed_decimal.proofs.Calling.{below_limit, first_zero}
 use Rattle.plural_rules.specs.Operands as operands
 use Rattle.locale_data.specs.{Plurals.IsCategoryAt, declared.compact.CompactStyle.CompactStyle}
+use Rattle.locale_data.proofs.lemmas.tables.OneAlone.{one_is_unit}
 use Rattle.decimal_format.specs.Formatted.{absolute_text}
 use Rattle.decimal_format.proofs.lemmas.reader.Scans.{begins-append}
-use Rattle.number_format.specs.{declared.{digits.options.DigitOptions.DigitOptions, format.formatter.NumberFormatter.NumberFormatter, notation.Notation.Notation, options.{NumberNotation.NumberNotation, NumberStyle.NumberStyle}, read.{compact.keys.CompactKey.CompactKey}}, FormattedNumbers.{visible_text, exponent_text}, AffixedTexts.{between, shifted, IsWrittenBy}, CompactReading.{has_number_at, inner_at, word_pattern, magnitude_by, is_unit, one_of, word_reader, HasCompactExponents, HasWordNumbers, IsNoWhole, IsOwnInWords, IsOwnKey, IsReadByNumber, IsReadInWords, IsReadShownInWords, IsSaid, IsShownInWords, IsWholeOf}, NumberReading.{CanRead, CanReadExponents, CanReadNotation, CanReadWords, IsShownAs, KeepsNotation, words_of, AreOwnWordsNamed}, NumberText.{IsNumberText, around_by, bare_separator, compact_magnitude, compact_pattern, compact_power, compact_style, exponent_of, is_one, rounded_in, shown_sign}, ScientificReading.exponent_form, Scaled.{ScaledValue, base_exponent, compact_exponent, exponent_at, IsOrdered}}
+use Rattle.number_format.specs.{declared.{digits.options.DigitOptions.DigitOptions, format.formatter.NumberFormatter.NumberFormatter, notation.Notation.Notation, options.{NumberNotation.NumberNotation, NumberStyle.NumberStyle}, read.{compact.keys.CompactKey.CompactKey}}, FormattedNumbers.{visible_text, exponent_text}, AffixedTexts.{between, shifted, IsWrittenBy}, CompactReading.{has_number_at, inner_at, is_single, word_pattern, magnitude_by, is_unit, one_of, word_reader, HasCompactExponents, HasWordNumbers, IsNoWhole, IsForOneAlone, IsOwnInWords, IsOwnKey, IsReadByNumber, IsReadInWords, IsReadShownInWords, IsSaid, IsShownInWords, IsWholeOf}, NumberReading.{CanRead, CanReadExponents, CanReadNotation, CanReadWords, IsShownAs, KeepsNotation, words_of, AreOwnWordsNamed}, NumberText.{IsNumberText, around_by, bare_separator, compact_magnitude, compact_pattern, compact_power, compact_style, exponent_of, is_negative, is_one, number_before_cut, rounded_in, shown_sign}, ScientificReading.exponent_form, Scaled.{ScaledValue, base_exponent, compact_exponent, exponent_at, IsOrdered}}
 use Rattle.number_format.proofs.lemmas.{format.PieceTexts.{shows_integer, text-of_digits_and_exponent}, notation.Scales.{keeps_exponent, zero_exponent}, read.{AffixedNumbers.{two_texts, value_text_is}, CompactKeys.{clamped, same_exponent_at}, FormatterTexts.{inner_by, text_by, some_same}, ShownValues.{scaled_first}}}
 
 -- ---- The exponent.
@@ -99,6 +101,33 @@ module _ (n : Notation) (has : HasCompactExponents n) (v : Decimal) (e : ℤ)
 
 -- ---- The text.
 
+-- a number without a minus sign is shown without one
+plain_by : (b : Bool) (s : Sign) → is_negative s ≡ false → is_negative (if b then Sign.None else s) ≡ false
+plain_by true s is = refl
+plain_by false s is = is
+
+shown_plain : (display : SignDisplay) (n : ℕ) (s : Sign) → is_negative s ≡ false
+    → is_negative (displayed_sign display n s) ≡ false
+shown_plain display n Sign.Negative is = absurd (cc)
+shown_plain display.Auto n Sign.None is = refl
+shown_plain display.Auto n Sign.Positive is = refl
+shown_plain display.Never n s is = refl
+shown_plain display.Always n Sign.None is = refl
+shown_plain display.Always n Sign.Positive is = refl
+shown_plain display.ExceptZero n Sign.None is = plain_by (n == 0) Sign.Positive refl
+shown_plain display.ExceptZero n Sign.Positive is = plain_by (n == 0) Sign.Positive refl
+shown_plain display.Negative n Sign.None is = plain_by (n == 0) Sign.None refl
+shown_plain display.Negative n Sign.Positive is = plain_by (n == 0) Sign.None refl
+
+-- so the pattern for 1 itself is chosen by the sign of the number as by the one that is shown
+one_is_single : (unit : Bool) (display : SignDisplay) (n : ℕ) (s : Sign)
+    → (not (is_negative s) && unit) ≡ ((not (is_negative s) && unit) && not (is_negative (displayed_sign display n s)))
+one_is_single unit display n Sign.Negative = refl
+one_is_single false display n Sign.None = refl
+one_is_single false display n Sign.Positive = refl
+one_is_single true display n Sign.None = ap not (sym (shown_plain display n Sign.None refl))
+one_is_single true display n Sign.Positive = ap not (sym (shown_plain display n Sign.Positive refl))
+
 -- a number is shown as a whole text
 pub record IsShownWhole (f : NumberFormatter) (style : CompactStyle) (text : List ℕ) (u : Decimal) (e : ℤ)
     : Type 0 where
@@ -182,11 +211,18 @@ module _ (f : NumberFormatter) (style : CompactStyle) (words : words_of f ≡ So
             sign = sym shown.sign;
           }
 
+      single : (text : List ℕ) (t : IsNumberText f v text)
+          → is_one shown.number.significand ≡ is_single (key_of text t)
+      single text t =
+          let number = shown.number.significand in
+          one_is_single (operands.i number.absolute == 1 && operands.w number.absolute == 0) f.options.sign_display
+          (number_before_cut f v) number.sign
+
       inner_of : (text : List ℕ) (t : IsNumberText f v text)
           → inner_by f v shown.number t.1.category ≡ inner_at f style (key_of text t)
       inner_of text t =
           let k = key_of text t in
-          ap (λ w. around_by f.style k.sign (compact_pattern f.formats w k.magnitude k.category k.is_one)) words
+          (λ i. around_by f.style k.sign (compact_pattern f.formats (words i) k.magnitude k.category (single text t i)))
 
       shown_by : (text : List ℕ) (t : IsNumberText f v text) (b : Bool)
           → has_number_at f style (key_of text t) ≡ b → IsWordText f style text u shown.number.exponent
@@ -245,15 +281,22 @@ module _ (f : NumberFormatter) (style : CompactStyle) (words : words_of f ≡ So
         → (k.sign ≡ l.sign) × (exponent_at f.notation k.magnitude ≡ exponent_at f.notation l.magnitude)
     one_meaning text k l a b =
         (has_words k a.none).meaning l
-        (record { one = (has_words l b.none).one; none = b.none; same = sym a.is ∙ b.is })
+        (record { none = b.none; same = sym a.is ∙ b.is })
 
-    said_whole : (text : List ℕ) (u : Decimal) (e : ℤ) (shown : IsShownWhole f style text u e) (s : Sign)
-        → s ≡ u.sign → IsSaid f style text u (record { sign = s; absolute = one_value })
-    said_whole text u e shown s sign =
+    is_unit_of : (u : Decimal) (k : CompactKey) → IsValue u.absolute → IsOwnKey f u k → IsForOneAlone f k
+        → is_unit u.absolute ≡ true
+    is_unit_of u k valid own (inl single) = own.is_one (and_parts _ _ single).0
+    is_unit_of u k valid own (inr (one, alone)) =
+        one_is_unit u.absolute valid f.rules alone
+        (subst (IsCategoryAt f.rules (operands.plain u.absolute)) one own.category)
+
+    said_whole : (text : List ℕ) (u : Decimal) (e : ℤ) → IsValue u.absolute → (shown : IsShownWhole f style text u e)
+        → (s : Sign) → s ≡ u.sign → IsSaid f style text u (record { sign = s; absolute = one_value })
+    said_whole text u e valid shown s sign =
         inr (
           shown.key,
           shown.whole,
-          shown.own.is_one (has_words shown.key shown.whole.none).one,
+          is_unit_of u shown.key valid shown.own (has_words shown.key shown.whole.none).one,
           λ i. record { sign = sign i; absolute = one_value },
         )
 
@@ -272,8 +315,8 @@ module _ (f : NumberFormatter) (style : CompactStyle) (words : words_of f ≡ So
     one_number text x y d e valid valid' (inr a) (inr b) =
         let same = one_meaning text a.key b.key a.whole b.whole in (
           record { sign = x.sign; absolute = one_value },
-          said_whole text x d a x.sign refl,
-          said_whole text y e b x.sign (sym a.own.sign ∙ same.0 ∙ b.own.sign),
+          said_whole text x d valid a x.sign refl,
+          said_whole text y e valid' b x.sign (sym a.own.sign ∙ same.0 ∙ b.own.sign),
           sym a.exponent ∙ same.1 ∙ b.exponent,
         )
     one_number text x y d e valid valid' (inl a) (inr b) = absurd (no_whole text x d valid a b.key b.whole)
@@ -319,7 +362,7 @@ module _ (f : NumberFormatter) (style : CompactStyle) (words : words_of f ≡ So
     reads_shown inline text u e read valid (inr shown) (inl (k, whole, is)) =
         let same = one_meaning text k shown.key whole shown.whole in (
           one_of k,
-          said_whole text u e shown k.sign (same.0 ∙ shown.own.sign),
+          said_whole text u e valid shown k.sign (same.0 ∙ shown.own.sign),
           inl (is ∙ ap (λ z. shifted z (Ok (one_of k))) (same.1 ∙ shown.exponent)),
         )
     reads_shown inline text u e read valid (inr shown) (inr (none, is)) = absurd (none shown.key shown.whole)

@@ -1,6 +1,6 @@
 //! By what the texts around a number in compact notation are chosen.
 ghost use Rattle.std.specs.Prelude.{◌≡◌, ◌<◌};
-ghost use Rattle.number_format.specs.CompactReading.{category_at, sign_at, key_at};
+ghost use Rattle.number_format.specs.CompactReading.{category_at, sign_at, key_at, is_single};
 
 use fixed_decimal::Sign;
 use plural_rules::PluralCategory::{self, Few, Many, One, Other, Two, Zero};
@@ -12,12 +12,21 @@ pub(crate) struct CompactKey {
     pub(crate) magnitude: i16,
     /// The plural category of the significand.
     pub(crate) category: PluralCategory,
-    /// Whether the significand is 1, without a minus sign.
+    /// Whether the significand is 1.
     pub(crate) is_one: bool,
     /// The plural category of the whole number, by which a unit, a name or a percent sign is chosen.
     pub(crate) whole: PluralCategory,
     /// The sign that is shown.
     pub(crate) sign: Sign,
+}
+
+impl CompactKey {
+    /// Returns whether the pattern for 1 itself is chosen, as it is for 1 without a minus sign.
+    pub(crate) fn is_single(self) -> bool
+        ensures { result ≡ is_single self }
+    {
+        self.is_one && !matches!(self.sign, Sign::Negative)
+    }
 }
 
 /// The number of keys whose texts are all that there are: 18 magnitudes, 6 categories, 2, 6 categories

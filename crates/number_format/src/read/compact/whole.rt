@@ -2,7 +2,8 @@
 ghost use Rattle.std.specs.Prelude.{◌≡◌, ◌≢◌, ◌↔◌, ◌++◌, ◌+◌, ◌*◌, ◌<◌, ℕ, List, IsTrue, MatchOption};
 ghost use Rattle.std.specs.List.{Contains};
 ghost use Rattle.decimal_format.specs.Readable.{BeginsWithDigit};
-ghost use Rattle.number_format.specs.CompactReading.{word_pattern, whole_text, key_at, HasCompactExponents, HasNoDigit, HasNumberOr, HasOneMeaning, HasMeaningOf, HasWordNumbers, HaveNumbersBelow};
+ghost use Rattle.number_format.specs.CompactReading.{word_pattern, whole_text, key_at, HasCompactExponents, HasNoDigit, HasNumberOr, HasOneMeaning, HasMeaningOf, HasWordNumbers, HaveNumbersBelow, IsForOneAlone};
+ghost use Rattle.number_format.specs.Scaled.{exponent_at};
 ghost use Rattle.number_format.specs.declared.read.pattern.NumberPattern.{NumberPattern};
 
 use crate::format::formatter::NumberFormatter;
@@ -14,7 +15,8 @@ use crate::read::pattern::{NumberPattern, pair_text};
 use arrayvec::ArrayString;
 use decimal_format::DecimalSymbols;
 use fixed_decimal::Sign;
-use locale_data::CompactStyle;
+use locale_data::{CompactStyle, is_one_alone};
+use plural_rules::PluralCategory;
 
 fn begins_with_digit(symbols: &DecimalSymbols<'_>, text: &[u8]) -> bool
     ensures { IsTrue result ↔ BeginsWithDigit symbols.now text.now }
@@ -106,6 +108,15 @@ impl NumberFormatter {
         is_whole(text, &outer, &inner)
     }
 
+    fn means_the_same(&self, key: CompactKey, other: CompactKey) -> bool
+        ensures { IsTrue result ↔ ((key.sign ≡ other.sign)
+            × (exponent_at self.now.notation key.magnitude ≡ exponent_at self.now.notation other.magnitude)) }
+    {
+        let exponent = self.notation.exponent_at(key.magnitude);
+        are_same_signs(key.sign, other.sign)
+            && are_same_powers(exponent, self.notation.exponent_at(other.magnitude))
+    }
+
     fn has_meaning_of(
         &self,
         style: CompactStyle,
@@ -116,20 +127,9 @@ impl NumberFormatter {
         requires { text.now ≡ whole_text (word_pattern self.now style key) }
         ensures { IsTrue result ↔ HasMeaningOf self.now style (word_pattern self.now style key) other }
     {
-        if !other.is_one {
-            return true;
-        }
-        if self.has_number_in(style, other) {
-            return true;
-        }
-        if !self.has_text(style, other, text) {
-            return true;
-        }
-        let exponent = self.notation.exponent_at(key.magnitude);
-        if !are_same_signs(key.sign, other.sign) {
-            return false;
-        }
-        are_same_powers(exponent, self.notation.exponent_at(other.magnitude))
+        self.means_the_same(key, other)
+            || self.has_number_in(style, other)
+            || !self.has_text(style, other, text)
     }
 
     fn has_one_meaning(&self, style: CompactStyle, key: CompactKey) -> bool
@@ -145,6 +145,12 @@ impl NumberFormatter {
         true
     }
 
+    fn is_for_one_alone(&self, key: CompactKey) -> bool
+        ensures { IsTrue result ↔ IsForOneAlone self.now key }
+    {
+        key.is_single() || matches!(key.category, PluralCategory::One) && is_one_alone(self.rules)
+    }
+
     /// Returns whether the key has a number, or a whole text that can be read.
     pub(crate) fn has_number_or_meaning(&self, style: CompactStyle, key: CompactKey) -> bool
         requires { HasCompactExponents self.now.notation }
@@ -153,7 +159,7 @@ impl NumberFormatter {
         if self.has_number_in(style, key) {
             return true;
         }
-        if !key.is_one {
+        if !self.is_for_one_alone(key) {
             return false;
         }
         if !self.is_without_digit(style, key) {

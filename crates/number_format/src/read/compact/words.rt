@@ -1,7 +1,7 @@
 //! The texts around numbers in compact notation.
 ghost use Rattle.std.specs.{Prelude.{◌≡◌, ◌↔◌, ◌<◌, ◌≤◌, ◌+◌, ◌*◌, ◌≤ℤ◌, pos, IsTrue, IfSome, IfOk, OnOk}, Option.option_copied};
 ghost use Rattle.locale_data.specs.Compact.{pattern_for, patterns_in, compact_patterns, AreTexts};
-ghost use Rattle.number_format.specs.{CompactReading.{inner_at, has_number_at, word_pattern, key_at, is_of_one, is_of_other, IsSameBefore, RepeatsAnother, HasCompactExponents, AreWordPatterns, AreFirstPatterns}, NumberText.AreParts};
+ghost use Rattle.number_format.specs.{CompactReading.{inner_at, is_single, has_number_at, word_pattern, key_at, is_of_one, is_of_other, IsSameBefore, RepeatsAnother, HasCompactExponents, AreWordPatterns, AreFirstPatterns}, NumberText.AreParts};
 
 use crate::format::affixes::NumberAffixes;
 use crate::format::formatter::NumberFormatter;
@@ -10,7 +10,7 @@ use crate::read::apart::are_same_powers;
 use crate::read::compact::keys::{CompactKey, key_at};
 use crate::read::owned_affixes::OwnedAffixes;
 use crate::read::pattern::{NumberPattern, joined_texts};
-use locale_data::{CompactPattern, CompactPatterns, CompactStyle};
+use locale_data::{CompactForm, CompactPattern, CompactPatterns, CompactStyle};
 use plural_rules::PluralCategory;
 use std::alloc::{AllocError, Global};
 
@@ -54,11 +54,11 @@ impl NumberFormatter {
         key: CompactKey,
     ) -> Option<&'static CompactPattern>
         ensures value { option_copied result
-            ≡ pattern_for key.category key.is_one (compact_patterns self.now.formats style key.magnitude) }
+            ≡ pattern_for key.category (is_single key) (compact_patterns self.now.formats style key.magnitude) }
         ensures texts { IfSome result (λ pattern. AreTexts pattern.now) }
     {
         self.words_at(style, key.magnitude)
-            .pattern(key.category, key.is_one)
+            .pattern(key.category, key.is_single())
     }
 
     pub(crate) fn inner_at(&self, style: CompactStyle, key: CompactKey) -> NumberAffixes<'_>
@@ -71,7 +71,10 @@ impl NumberFormatter {
     pub(crate) fn has_number_in(&self, style: CompactStyle, key: CompactKey) -> bool
         ensures { result ≡ has_number_at self.now style key }
     {
-        self.inner_at(style, key).has_number
+        match self.word(style, key) {
+            Some(pattern) => !matches!(pattern.form, CompactForm::Literal),
+            None => true,
+        }
     }
 
     /// Returns the texts around a number.

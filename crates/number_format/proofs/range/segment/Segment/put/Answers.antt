@@ -1,6 +1,6 @@
 use Rattle.std.proofs.{Common.◌++◌, lemmas.Result.on_err_weaker}
 use Rattle.fixed_decimal.proofs.Calling.{on_err}
-use Rattle.number_format.specs.{FormattedNumbers.number_pieces_if, FormattedRanges.outer_text, TextParts.{parts_pieces, pieces_of}}
+use Rattle.number_format.specs.{FormattedNumbers.number_pieces_if, TextParts.{parts_pieces, parts_text, pieces_of}}
 use Rattle.number_format.proofs.lemmas.format.PieceTexts.{prefix_more, then_prefix}
 use Rattle.number_format.proofs.range.segment.Segment.put.Goals as goal
 
@@ -26,7 +26,7 @@ returns-clause-err g c =
     let prefix = parts_pieces s.prefix.now in
     let number = number_pieces_if s.number.now s.has_number in
     let suffix = parts_pieces s.suffix.now in
-    let outer = pieces_of s.kind (outer_text s) in
+    let outer = pieces_of s.kind (parts_text s.outer.now) in
     on_err_weaker c.put_outer.result
     (λ p. then_prefix _ _ _ prefix (number ++ (suffix ++ outer)) c.in_ok-put_parts.ensures.ok
     (then_prefix _ _ _ number (suffix ++ outer) c.in_ok-put_number_if.ensures.ok

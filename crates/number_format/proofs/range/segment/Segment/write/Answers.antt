@@ -1,6 +1,6 @@
 use Rattle.std.proofs.{Common.◌++◌, lemmas.Result.on_err_weaker}
 use Rattle.fixed_decimal.proofs.Calling.{on_err, prefix_more, then_prefix}
-use Rattle.number_format.specs.{FormattedNumbers.number_text_if, FormattedRanges.outer_text, TextParts.parts_text}
+use Rattle.number_format.specs.{FormattedNumbers.number_text_if, TextParts.parts_text}
 use Rattle.number_format.proofs.range.segment.Segment.write.Goals as goal
 
 pub returns-in_err-write_parts-clause-err : goal.returns-in_err-write_parts-clause-err
@@ -26,9 +26,9 @@ returns-clause-err g c =
     let prefix = parts_text s.prefix.now in
     let number = number_text_if s.number.now s.has_number in
     let suffix = parts_text s.suffix.now in
-    let outer = outer_text s in
+    let outer = parts_text s.outer.now in
     on_err_weaker c.write_parts-3.result
     (λ p. then_prefix _ _ _ prefix (number ++ (suffix ++ outer)) c.in_ok-write_parts.ensures.ok
     (then_prefix _ _ _ number (suffix ++ outer) c.in_ok-write_number_if.ensures.ok
     (then_prefix _ _ _ suffix outer c.in_ok-write_parts-2.ensures.ok p)))
-    (rw c.outer_texts.ensures.value at c.write_parts-3.ensures.err)
+    c.write_parts-3.ensures.err

@@ -1,6 +1,6 @@
 use Rattle.std.proofs.Common.{Err, ap, ◌∙◌}
 use Rattle.cli.proofs.lemmas.program.Programs.{concludes_error}
-use Rattle.cli.proofs.fixdec.program.Goals as goal
+use Rattle.cli.proofs.fixdec.run_words.Goals as goal
 
 pub returns-clause-printed : goal.returns-clause-printed
 returns-clause-printed g c = λ zero.
