@@ -1,8 +1,8 @@
 #!/usr/bin/env bash
 # Prints the tables of hosts: fd_format of the C library beside NumberFormatter::write in Rattle and beside ICU,
-# fd_format_range beside ICU, the Rust crate beside the C library, SQLite beside its own printf, the Python module
-# beside decimal, Babel and the program, and a column on the workers of Dask beside one program and beside a Dask map of
-# decimal.Decimal:
+# fd_format_range beside ICU, the time in which a unit is found, the Rust crate beside the C library, SQLite beside its
+# own printf, the Python module beside decimal, Babel and the program, and a column on the workers of Dask beside one
+# program and beside a Dask map of decimal.Decimal:
 #
 #   bench/hosts.sh [LINES]        by default 5000000
 #
@@ -58,6 +58,13 @@ awk -F '\t' '
   }
   END { for (row = 0; row < n; row++) printf "|%s|%d|%d|%.2f|\n", rows[row], own[rows[row]], icu[rows[row]],
           own[rows[row]] / icu[rows[row]] }' "$room/times"
+echo
+echo '|Unit|fd_unit, ns|'
+echo '|---|---|'
+awk -F '\t' '
+  $1 == "fd_unit" && !($3 in least) { units[n++] = $3 }
+  $1 == "fd_unit" && (!($3 in least) || $5 < least[$3]) { least[$3] = $5 }
+  END { for (unit = 0; unit < n; unit++) printf "|%s|%d|\n", units[unit], least[units[unit]] }' "$room/times"
 echo
 FIXED_DECIMAL_LIB=$PWD/c/out/libfixed_decimal.a CARGO_TARGET_DIR=$room/target \
   cargo run --quiet --release --offline --manifest-path bench/hosts/Cargo.toml

@@ -3,8 +3,9 @@
  *
  * `fd_format` has a formatter that is kept, `fd_format_by_skeleton` makes one each time. `unumf_formatDecimal` of ICU
  * has a formatter and a result that are kept, and unumf_resultToString copies its text in UTF-16. The ranges are those
- * of fd_format_range and unumrf_formatDecimalRange, by formatters that are kept. Each figure is the least processor
- * time of nine batches. With the words CALL LOCALE SKELETON COUNT it makes that many calls, and times none. */
+ * of fd_format_range and unumrf_formatDecimalRange, by formatters that are kept. The last rows, `fd_unit` and a unit,
+ * have the time in which a unit is found. Each figure is the least processor time of nine batches. With the words
+ * CALL LOCALE SKELETON COUNT it makes that many calls, and times none. */
 #include "../../c/fixed_decimal.h"
 #include <stdio.h>
 #include <stdlib.h>
@@ -20,6 +21,7 @@ enum { CALLS = 20000, BATCHES = 9, ROOM = 128 };
 static const char *const locales[] = {"en", "de", "hi", "ar-EG", "ja"};
 static const char *const skeletons[] = {"currency/EUR .00", "percent", "K"};
 static const char number[] = "1234.5", range_end[] = "5678.5";
+static const char *const units[] = {"kilometer", "year", "mile-scandinavian", "kilometer-per-hour", "microsecond"};
 static volatile size_t total;
 
 typedef struct subject {
@@ -60,6 +62,10 @@ static void format_range_by_icu(const subject *it) {
                               it->range, &status);
     ufmtval_getString(unumrf_resultAsValue(it->range, &status), &count, &status);
     total += (size_t)count;
+}
+
+static void find_unit(const subject *it) {
+    total += fd_unit(BYTES(it->skeleton)).unit;
 }
 
 #define RANGE "1234.5..5678.5"
@@ -137,6 +143,10 @@ int main(int count, char **words) {
             unumrf_close(it.icu_range);
             unumrf_closeResult(it.range);
         }
+    }
+    for (size_t u = 0; u < sizeof units / sizeof *units; u++) {
+        subject it = {.skeleton = units[u]};
+        printf("fd_unit\t\t%s\t\t%.0f\n", units[u], least(find_unit, &it));
     }
     return 0;
 }

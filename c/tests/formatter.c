@@ -184,6 +184,33 @@ static void test_parts(void) {
     CHECK(r.status == FD_FORMATTER && r.count == 0 && r.parts == 0);
 }
 
+/* Ranges of numbers of 1 to 130 digits, whose texts are also longer than a block of the library: the text of the start
+ * without its last bytes, the separator, and the text of the end. */
+static void test_long_ranges(void) {
+    static const struct {
+        const char *tag, *skeleton, *cut, *separator;
+    } rows[] = {{"en", "", "", "–"}, {"en", "currency/USD", "", " – "}, {"de", "currency/EUR", "\xc2\xa0" "€", "–"},
+                {"en", "unit/kilometer", " km", "–"}, {"ru", "unit/day unit-width-full-name", " дней", "–"},
+                {"en", "scientific .#", "", " – "}, {"de", "percent", "\xc2\xa0%", "–"}};
+    for (size_t i = 0; i < COUNT(rows); i++) {
+        fd_formatter f = by_skeleton(rows[i].tag, rows[i].skeleton);
+        char start[131] = "", end[131] = "";
+        for (size_t digits = 0; digits < 130; digits++) {
+            uint8_t text[1024], expected[1024];
+            start[digits] = '5';
+            end[digits] = '7';
+            fd_result first = fd_format(&f, BYTES(start), expected, sizeof expected);
+            size_t n = first.count - strlen(rows[i].cut);
+            CHECK(first.status == FD_OK && memcmp(expected + n, rows[i].cut, first.count - n) == 0);
+            memcpy(expected + n, rows[i].separator, strlen(rows[i].separator));
+            n += strlen(rows[i].separator);
+            fd_result last = fd_format(&f, BYTES(end), expected + n, sizeof expected - n);
+            fd_result range = fd_format_range(&f, BYTES(start), BYTES(end), text, sizeof text);
+            CHECK(range.status == FD_OK && range.count == n + last.count && memcmp(text, expected, range.count) == 0);
+        }
+    }
+}
+
 /* Ranges at each capacity; their errors, of the start before those of the end; and the category of a range. */
 static void test_ranges(void) {
     static const struct {
@@ -446,6 +473,7 @@ int main(void) {
     test_options();
     test_parts();
     test_ranges();
+    test_long_ranges();
     test_long_tags();
     test_many_parts();
     test_columns();

@@ -121,26 +121,6 @@ fn print<O: Write>(alloc: Global, words: &[String], out: &mut Out<O>) -> Result<
     Ok(true)
 }
 
-fn run_words<O: Write, D: Diagnostics<ProgramError>>(
-    alloc: Global,
-    words: &[String],
-    out: &mut Out<O>,
-    diagnostics: &mut D,
-) -> u8
-    ensures at_most { result ≤ 3 }
-    ensures printed { result ≡ 0 → Prints words.now (O.contents out.old.0) (O.contents out.new.0) }
-    ensures has_not_failed { result ≡ 0 → out.new.1 ≡ false }
-    ensures silent { result ≡ 0 → diagnostics.new ≡ diagnostics.old }
-    ensures reported { 0 < result → (error : ProgramError) × (result ≡ status_of error) × HasError words.now error
-        × D.reports diagnostics.old error diagnostics.new
-        × (error ≢ ProgramError.Output → out.new ≡ out.old)
-        × (error ≡ ProgramError.Output → (out.new.1 ≡ true)
-        × PrintsPrefix words.now (O.contents out.old.0) (O.contents out.new.0)) }
-    ensures unchanged_on_error { 0 < result → result < 3 → out.new ≡ out.old }
-{
-    conclude(print(alloc, words, out), None, diagnostics)
-}
-
 /// Runs the program on the words after its name, and returns the exit status.
 ///
 /// The first word is the text, whatever it holds. The others are a `to:`, a `read:`, calls and a `format:`, as the text
@@ -173,7 +153,7 @@ pub fn program<O: Write, E: Write>(
     ensures unchanged_on_error { 0 < result → result < 3 → out.new ≡ out.old }
 {
     let mut lines = ErrorLines::new(err);
-    run_words(alloc, words, out, &mut lines)
+    conclude(print(alloc, words, out), None, &mut lines)
 }
 
 /// Does what `program` does on the arguments of the process, with a buffer before `out`, which is returned after its
@@ -201,9 +181,11 @@ pub fn run_arguments<O: Write + Drop, D: Diagnostics<ProgramError>>(
         return (conclude(Err(no_memory), None, diagnostics), None);
     };
     let mut buffered = Out::new(buffer);
-    let status = run_words(alloc, words.as_slice(), &mut buffered, diagnostics);
-    if status != 0 {
-        return (status, Some(buffered.abandon()));
+    if let Err(error) = print(alloc, words.as_slice(), &mut buffered) {
+        return (
+            conclude(Err(error), None, diagnostics),
+            Some(buffered.abandon()),
+        );
     }
     let closed = buffered.close();
     if closed.has_failed() {

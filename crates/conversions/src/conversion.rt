@@ -1,7 +1,7 @@
 //! Conversions: a text is read, calls are made on its decimal, and the text of the result is written.
 ghost use Rattle.std.specs.{Prelude.{◌≡◌, ◌≢◌, Ok, Err, true, IfOk, IfErr, OnOk, OnErr}, Io.KnownBytes.Appends};
 ghost use Rattle.decimal_digits.specs.AppendsPrefix.{AppendsPrefix};
-ghost use Rattle.conversions.specs.Conversion.{IsReadBy, ReadingByFails, HasTextBy, WritingFails, HasOutcome, OperationsFail, IsLast, LastFails, is_plain};
+ghost use Rattle.conversions.specs.{Conversion.{IsReadBy, ReadingByFails, HasTextBy, WritingFails, HasOutcome, OperationsFail, IsLast, LastFails, is_plain}, Error.error_of_run};
 
 use crate::error::OperationError;
 use crate::locale_formatter::{LocaleFormatter, write_number, write_text};
@@ -48,23 +48,27 @@ fn read(
     }
 }
 
-/// Reads a text, and makes calls on its decimal.
+/// Reads a text, and makes calls on its decimal: of `1,5`, read by `de`, `MultiplyPow10(1)` makes 15.
+///
+/// # Errors
+///
+/// The first error of the text and the calls, as in [`fixed_decimal::run`].
 #[inline]
-pub(crate) fn converted(
+pub fn converted(
     alloc: Global,
     reader: &Option<LocaleReader<'_>>,
     calls: &[Call<'_>],
     text: &[u8],
-) -> Result<Decimal, OperationError>
+) -> Result<Decimal, RunError>
     ensures last { IfOk result (λ v. IsLast reader.now calls.now text.now (Ok v)) }
-    ensures fails_with { IfErr result (λ error. LastFails error reader.now calls.now text.now) }
+    ensures fails_with { IfErr result (λ error. LastFails (error_of_run error) reader.now calls.now text.now) }
 {
     let mut value = match read(alloc, reader, text) {
         Ok(value) => value,
-        Err(error) => return Err(OperationError::from(RunError::Start(error))),
+        Err(error) => return Err(RunError::Start(error)),
     };
     if let Err(error) = apply_calls(alloc, &mut value, calls) {
-        return Err(OperationError::from(RunError::from(error)));
+        return Err(RunError::from(error));
     }
     Ok(value)
 }
@@ -119,7 +123,7 @@ impl Conversion<'_> {
     {
         match converted(alloc, &self.reader, self.calls.as_slice(), text) {
             Ok(value) => self.write(alloc, value, sink),
-            Err(error) => Err(error),
+            Err(error) => Err(OperationError::from(error)),
         }
     }
 }

@@ -20,7 +20,7 @@ mod reader;
 mod shown_word;
 
 pub use calls::call;
-pub use conversion::{Conversion, convert};
+pub use conversion::{Conversion, convert, converted};
 pub use error::{FormError, OperationError, RangeError, Reason};
 pub use format_word::{parse_formatter, parse_strategy};
 pub use locale_formatter::LocaleFormatter;

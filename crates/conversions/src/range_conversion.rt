@@ -74,11 +74,11 @@ pub fn convert_range<W: Sink>(
     let calls = conversion.calls.as_slice();
     let first = match converted(alloc, &conversion.reader, calls, start) {
         Ok(value) => value,
-        Err(error) => return Err(RangeError::Operation(error)),
+        Err(error) => return Err(RangeError::Operation(OperationError::from(error))),
     };
     let second = match converted(alloc, &conversion.reader, calls, end) {
         Ok(value) => value,
-        Err(error) => return Err(error_of_end(error)),
+        Err(error) => return Err(error_of_end(OperationError::from(error))),
     };
     match conversion.formatter.write(alloc, first, second, sink) {
         Ok(()) => Ok(()),

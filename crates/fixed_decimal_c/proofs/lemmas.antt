@@ -1,5 +1,4 @@
 pub mod calls
-pub mod convert
 pub mod format_options
 pub mod formatter
 pub mod keys

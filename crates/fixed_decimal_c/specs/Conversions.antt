@@ -1,40 +1,32 @@
 -- Conversions, whose text is written to the buffer of a caller.
-use Rattle.std.specs.Prelude.{◌≡◌, ◌≢◌, ℕ, ◌⊎◌, List, length, Option, None, Result, Ok}
-use Rattle.decimal_unsigned.specs.declared.{decimal.TheConstants.INLINE_DIGITS, error.ParseError.ParseError}
-use Rattle.fixed_decimal.specs.{Decimal.Decimal, Calls.CallsFail, Errors.{RunFails, run_error}, Outcome.{after_calls, outcome}, declared.runs.{Call.Call, CallError.CallError, RunError.{RunError, TheVariants.Sink}}}
-use Rattle.conversions.specs.{Conversion.{IsReadBy, ReadingByFails}, declared.reader.LocaleReader.LocaleReader}
-use Rattle.fixed_decimal_c.specs.{declared.{calls.FdCall.FdCall, convert.Forms.Forms, error.FdError.FdError, forms.{FdForms.FdForms, Format.TheVariants.Own}}, Calls.{AreCalls, DecodeFails}, Errors.{error_of_parsing, error_of_run}, Formats.{IsTextBy, FormatFails}, Forms.{IsReaderOf, ReaderFails, IsFormatOf, FormatFormFails}, Texts.{WritesNothing, WritesTo}}
+use Rattle.std.specs.Prelude.{◌≡◌, ◌≢◌, ℕ, ◌⊎◌, List, length, Option, Result, Ok}
+use Rattle.decimal_unsigned.specs.declared.decimal.TheConstants.{INLINE_DIGITS}
+use Rattle.fixed_decimal.specs.{Decimal.Decimal, Errors.RunFails, Outcome.outcome, declared.runs.{Call.Call, RunError.{RunError, TheVariants.Sink}}}
+use Rattle.conversions.specs.{Conversion.{IsLast, LastFails, IsTextBy}, declared.reader.LocaleReader.LocaleReader}
+use Rattle.conversions.specs.Error as operation
+use Rattle.fixed_decimal_c.specs.{declared.{calls.FdCall.FdCall, convert.Forms.Forms, error.FdError.FdError, forms.FdForms.FdForms}, Calls.{AreCalls, DecodeFails}, Errors.error_of_run, Formats.FormatFails, Forms.{IsReaderOf, ReaderFails, IsFormatterOf, FormatFormFails}, Texts.{WritesNothing, WritesTo}}
 
 -- the forms that C passes
 pub record AreForms (forms : FdForms) (texts : List ℕ) (f : Forms) : Type 0 where
   pub reader : IsReaderOf forms.read texts f.reader
-  pub format : IsFormatOf forms.format texts f.format
+  pub formatter : IsFormatterOf forms.format texts f.formatter
 
--- there is no such reader, or one and no such format
+-- there is no such reader, or one and no such formatter
 abbrev pub FormsFail : FdError → FdForms → List ℕ → Type 0
 FormsFail error forms texts =
     ReaderFails error forms.read texts
     ⊎ (((r : Option LocaleReader) × IsReaderOf forms.read texts r) × FormatFormFails error forms.format texts)
 
 -- a text, read and changed by the calls, is written as this
-pub record IsConverted (f : Forms) (calls : List Call) (text written : List ℕ) : Type 0 where
-  pub value : Decimal
-  pub is_read : IsReadBy f.reader text (Ok value)
-  pub last : Decimal
-  pub called : after_calls 0 value calls ≡ Ok last
-  pub is : IsTextBy f.format last written
+abbrev pub IsConverted : Forms → List Call → List ℕ → List ℕ → Type 0
+IsConverted f calls text written =
+    (v : Decimal) × IsLast f.reader calls text (Ok v) × IsTextBy f.formatter v (Ok written)
 
--- a call on what was read, or formatting the result, fails with the error
-abbrev pub ChangesFail : Forms → List Call → Decimal → FdError → Type 0
-ChangesFail f calls v error =
-    ((e : CallError) × (error ≡ error_of_run (run_error e)) × CallsFail INLINE_DIGITS e v calls)
-    ⊎ ((w : Decimal) × (after_calls 0 v calls ≡ Ok w) × FormatFails f.format w (length calls) error)
-
--- reading the text, a call or formatting fails with the error
+-- reading the text or a call fails with the error, or formatting the result
 abbrev pub ConversionFails : Forms → List Call → List ℕ → FdError → Type 0
 ConversionFails f calls text error =
-    ((e : ParseError) × (error ≡ error_of_parsing e 0) × ReadingByFails f.reader text e)
-    ⊎ ((v : Decimal) × IsReadBy f.reader text (Ok v) × ChangesFail f calls v error)
+    ((e : RunError) × (error ≡ error_of_run e) × LastFails (operation.error_of_run e) f.reader calls text)
+    ⊎ ((v : Decimal) × IsLast f.reader calls text (Ok v) × FormatFails error f.formatter v (length calls))
 
 -- the text is written if it fits; or the conversion fails
 abbrev pub Converts : Forms → List Call → List ℕ → Result ℕ FdError → List ℕ → List ℕ → Type 0
@@ -54,10 +46,6 @@ ConvertsCalls answer text forms calls texts old new =
     ⊎ WritesNothing (λ error. FormsFail error forms texts) answer old new
 
 -- ---- Runs: conversions without forms.
-
--- a text is read and written as a decimal's own
-abbrev pub own_forms : Forms
-own_forms = record { reader = None; format = Own }
 
 -- the error is one with which the library's run may fail, its sink apart
 abbrev pub IsErrorOfRun : List ℕ → List Call → FdError → Type 0

@@ -2,10 +2,9 @@
 use Rattle.std.specs.{Prelude.{◌≡◌, ◌≢◌, ℕ, ◌⊎◌, List, Option, Some, None}, Str.IsUtf8}
 use Rattle.decimal_format.specs.Symbols.{Symbols}
 use Rattle.locale_data.specs.Locales.{IsLocale, IsUnknown}
-use Rattle.conversions.specs.declared.reader.LocaleReader.{LocaleReader, TheVariants.{Decimals, Numbers}}
+use Rattle.conversions.specs.declared.{locale_formatter.LocaleFormatter.{LocaleFormatter, TheVariants.{AllDigits, Skeleton}}, reader.LocaleReader.{LocaleReader, TheVariants.{Decimals, Numbers}}}
 use Rattle.number_format.specs.{NumberReading.{CanRead, NumberReader, number_reader_of}, declared.{format.formatter.NumberFormatter.NumberFormatter, read.number_reader.ParseMode.{ParseMode, TheVariants.{Strict, Lenient}}}}
-use Rattle.fixed_decimal_c.specs.{declared.{error.FdError.{FdError, TheVariants.{UnknownLocale, UnknownOption, SkeletonSyntax}}, forms.{FdForm.FdForm, Format.Format}}, Calls.IsPart, Locales.symbols_of_number, NumberOptions.grouping_code, NumberReadings.HasNoReader, NumberTexts.{IsFormatterFor, FormatterFails}}
-use Rattle.fixed_decimal_c.specs.declared.forms.Format.TheVariants as by
+use Rattle.fixed_decimal_c.specs.{declared.{error.FdError.{FdError, TheVariants.{UnknownLocale, UnknownOption, SkeletonSyntax}}, forms.FdForm.FdForm}, Calls.IsPart, Locales.symbols_of_number, NumberOptions.grouping_code, NumberReadings.HasNoReader, NumberTexts.{IsFormatterFor, FormatterFails}}
 
 abbrev pub reading_code : ParseMode → ℕ
 reading_code Strict = 0
@@ -94,11 +93,11 @@ ReaderFails error form texts =
     ⊎ ((form.skeleton_count ≢ 0) × SkeletonReaderFails error form texts)
 
 -- what a form formats by: with a skeleton by it, else by its symbols; without either a decimal is its own text
-abbrev pub IsFormatOf : FdForm → List ℕ → Format → Type 0
-IsFormatOf form texts by.Own = (form.skeleton_count ≡ 0) × AreSymbolsOf form texts None
-IsFormatOf form texts (by.Symbols f) =
+abbrev pub IsFormatterOf : FdForm → List ℕ → Option LocaleFormatter → Type 0
+IsFormatterOf form texts None = (form.skeleton_count ≡ 0) × AreSymbolsOf form texts None
+IsFormatterOf form texts (Some (AllDigits f)) =
     (form.skeleton_count ≡ 0) × AreSymbolsOf form texts (Some f.symbols) × (form.option ≡ grouping_code f.strategy)
-IsFormatOf form texts (by.Skeleton f) = (form.skeleton_count ≢ 0) × IsSkeletonFormatter form texts f
+IsFormatterOf form texts (Some (Skeleton f)) = (form.skeleton_count ≢ 0) × IsSkeletonFormatter form texts f
 
 -- there is no such formatter
 abbrev pub FormatFormFails : FdError → FdForm → List ℕ → Type 0

@@ -1,9 +1,9 @@
 -- Columns: lines in, lines out.
-use Rattle.std.specs.Prelude.{◌≡◌, ◌≢◌, ℕ, ◌<◌, ◌≤◌, ◌⊎◌, Bool, true, false, ⊤, List, [], ◌∷◌, ◌++◌, length, drop, flat_map, count_by, None, Result, Ok, Err, is_err}
+use Rattle.std.specs.Prelude.{◌≡◌, ◌≢◌, ℕ, ◌<◌, ◌≤◌, ◌⊎◌, Bool, true, false, ⊤, List, [], ◌∷◌, ◌++◌, length, drop, flat_map, count_by, Some, None, Result, Ok, Err, is_err}
 use Rattle.fixed_decimal.specs.declared.runs.Call.{Call}
-use Rattle.conversions.specs.Lines.{lines_of}
+use Rattle.conversions.specs.{Lines.lines_of, declared.locale_formatter.LocaleFormatter.TheVariants.Skeleton}
 use Rattle.number_format.specs.declared.format.formatter.NumberFormatter.{NumberFormatter}
-use Rattle.fixed_decimal_c.specs.{declared.{answer.{FdColumn.FdColumn, Progress.Progress}, calls.FdCall.FdCall, convert.Forms.Forms, forms.{FdForms.FdForms, Format.TheVariants.Skeleton}, error.FdError.{FdError, TheVariants.{BufferTooSmall, Memory}}}, Calls.{AreCalls, DecodeFails}, Encodings.fd_column, Conversions.{IsConverted, ConversionFails, AreForms, FormsFail}, Texts.IsWritten}
+use Rattle.fixed_decimal_c.specs.{declared.{answer.{FdColumn.FdColumn, Progress.Progress}, calls.FdCall.FdCall, convert.Forms.Forms, forms.FdForms.FdForms, error.FdError.{FdError, TheVariants.{BufferTooSmall, Memory}}}, Calls.{AreCalls, DecodeFails}, Encodings.fd_column, Conversions.{IsConverted, ConversionFails, AreForms, FormsFail}, Texts.IsWritten}
 
 -- a line has this result: its text; or, where lines that fail are skipped, the error of reading it or of a call
 abbrev pub IsLineResult : Forms → List Call → Bool → List ℕ → Result (List ℕ) FdError → Type 0
@@ -96,7 +96,7 @@ ConvertsColumn answer input skip forms calls texts old new =
 
 -- a decimal's own text is read, and the decimal is written by the formatter
 abbrev pub formatting_forms : NumberFormatter → Forms
-formatting_forms f = record { reader = None; format = Skeleton f }
+formatting_forms f = record { reader = None; formatter = Some (Skeleton f) }
 
 -- the column is formatted up to its end, or to the line that ends it; or there is no formatter, and the buffer is as it
 -- was

@@ -1,8 +1,9 @@
 -- The parts of a text, as C receives them.
-use Rattle.std.specs.Prelude.{◌≡◌, ℕ, zero, suc, ◌+◌, ◌^◌, ◌<◌, ◌≤◌, ◌⊎◌, ◌==◌, if◌then◌else◌, List, [], ◌∷◌, ◌++◌, length, take, drop, fold, reverse, Result, Ok, Err}
+use Rattle.std.specs.Prelude.{◌≡◌, ℕ, zero, suc, ◌+◌, ◌^◌, ◌<◌, ◌≤◌, ◌⊎◌, ◌==◌, if◌then◌else◌, List, [], ◌∷◌, ◌++◌, length, take, drop, fold, reverse, Some, Result, Ok, Err}
 use Rattle.fixed_decimal.specs.{Decimal.Decimal, DecimalText.read_decimal}
 use Rattle.number_format.specs.{declared.format.{formatter.NumberFormatter.NumberFormatter, text_part.PartKind.PartKind}, NumberText.AreNumberPieces, TextParts.{Piece, pieces_text}}
-use Rattle.fixed_decimal_c.specs.{declared.{error.FdError.{FdError, TheVariants.{BufferTooSmall, PartsTooSmall}}, formatter.FdFormatter.FdFormatter, forms.Format.TheVariants.Skeleton, parts.{FdPart.FdPart, FdParted.FdParted, PartCounts.PartCounts}}, Errors.{status_of, place_of}, Formats.FormatFails, KeptFormatters.IsKept, Numbers.ParsingFails}
+use Rattle.conversions.specs.declared.locale_formatter.LocaleFormatter.TheVariants.{Skeleton}
+use Rattle.fixed_decimal_c.specs.{declared.{error.FdError.{FdError, TheVariants.{BufferTooSmall, PartsTooSmall}}, formatter.FdFormatter.FdFormatter, parts.{FdPart.FdPart, FdParted.FdParted, PartCounts.PartCounts}}, Errors.{status_of, place_of}, Formats.FormatFails, KeptFormatters.IsKept, Numbers.ParsingFails}
 
 abbrev pub kind_code : PartKind → ℕ
 kind_code PartKind.Integer = 0
@@ -122,7 +123,7 @@ abbrev pub WritesPartsOf : NumberFormatter → Decimal → PartCounts → Result
 WritesPartsOf f v counts answer old new old_parts new_parts =
     ((pieces : List Piece) × AreNumberPieces f v pieces × (counts ≡ counts_of (parted pieces))
     × WritesParts answer (parted pieces) old new old_parts new_parts)
-    ⊎ WritesNoParts (FormatFails (Skeleton f) v 0) counts answer old new old_parts new_parts
+    ⊎ WritesNoParts (λ error. FormatFails error (Some (Skeleton f)) v 0) counts answer old new old_parts new_parts
 
 -- the same of the decimal that a text is; or it is none
 abbrev pub FormatsParts : NumberFormatter → PartCounts → Result Unit FdError → List ℕ → List ℕ → List ℕ

@@ -1,11 +1,13 @@
 //! Numbers as a locale writes them, by options or a number skeleton.
-ghost use Rattle.std.specs.Prelude.{◌≡◌, IfOk, IfErr};
-ghost use Rattle.fixed_decimal_c.specs.{declared.forms.Format.TheVariants.Skeleton, NumberTexts.{error_of_skeleton, error_of_formatter, error_of_format, AreOptionsOf, SkeletonFails, WritesSkeleton}, Formats.{WritesBy, FormatsText}};
+ghost use Rattle.std.specs.Prelude.{◌≡◌, Some, IfOk, IfErr};
+ghost use Rattle.conversions.specs.declared.locale_formatter.LocaleFormatter.TheVariants.{Skeleton};
+ghost use Rattle.fixed_decimal_c.specs.{NumberTexts.{error_of_skeleton, error_of_formatter, error_of_format, AreOptionsOf, SkeletonFails, WritesSkeleton}, Formats.{WritesBy, FormatsText}};
 
 use crate::error::FdError;
 use crate::number_options::FdNumberOptions;
 use crate::numbers::read;
-use crate::texts::{deliver, write_by_block};
+use crate::texts::{deliver, write_value};
+use decimal_format::internal::Block;
 use fixed_decimal::{Decimal, RoundError};
 use number_format::{NumberFormatError, NumberFormatter, NumberOptions};
 use number_skeleton::SkeletonError;
@@ -85,11 +87,14 @@ pub(crate) fn write_number(
     at: usize,
     buffer: &mut [u8],
 ) -> Result<usize, FdError>
-    ensures { WritesBy (Skeleton formatter.now) value at result buffer.old buffer.new }
+    ensures { WritesBy (Some (Skeleton formatter.now)) value at result buffer.old buffer.new }
 {
-    match formatter.format(alloc, value) {
-        Ok(number) => write_by_block(&number, buffer),
-        Err(failed) => Err(error_of_format(failed.error, at)),
+    // A short text is written to a block first, since its length takes more time than the text.
+    let mut block = Block::new();
+    match formatter.write_to_block(alloc, value, &mut block) {
+        Ok(None) => deliver(block.as_bytes(), buffer),
+        Ok(Some(number)) => write_value(&number, buffer),
+        Err(error) => Err(error_of_format(error, at)),
     }
 }
 

@@ -260,9 +260,12 @@ impl FdFormatOptions {
         let Some(integer) = self.integer() else {
             return None;
         };
+        let Some(precision) = self.precision() else {
+            return None;
+        };
         Some(DigitOptions {
             integer,
-            precision: self.precision()?,
+            precision,
             mode: mode(self.rounding_mode)?,
             trailing_zeros: choice(&TRAILING_ZEROS, self.trailing_zeros)?,
         })
@@ -274,7 +277,10 @@ impl FdFormatOptions {
     {
         match self.precision {
             0 => Some(None),
-            _ => Some(Some(self.shown_digits()?)),
+            _ => match self.shown_digits() {
+                Some(digits) => Some(Some(digits)),
+                None => None,
+            },
         }
     }
 
@@ -299,16 +305,25 @@ impl FdFormatOptions {
         if self.reserved != [0; 29] {
             return None;
         }
+        let Some(style) = self.style() else {
+            return None;
+        };
+        let Some(digits) = self.digits() else {
+            return None;
+        };
+        let Some(numbering_system) = self.system() else {
+            return None;
+        };
         Some(NumberOptions {
-            style: self.style()?,
+            style,
             scale: self.scale,
             notation: self.notation()?,
-            digits: self.digits()?,
+            digits,
             sign_display: display(self.sign_display)?,
             grouping: grouping(self.grouping)?,
             group_sizes: choice(&GROUP_SIZES, self.group_sizes)?,
             decimal_separator: choice(&SEPARATORS, self.decimal_separator)?,
-            numbering_system: self.system()?,
+            numbering_system,
         })
     }
 }

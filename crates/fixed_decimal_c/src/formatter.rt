@@ -120,12 +120,11 @@ impl FdFormatter {
         let Some((ids, options)) = self.ids_and_options() else {
             return Err(FdError::Formatter);
         };
-        // Borrowed, so that the formatter is not copied.
-        let formatter = NumberFormatter::at(&ids, &options);
-        match &formatter {
-            Some(formatter) => format_text(alloc, formatter, text, buffer),
-            None => Err(FdError::Formatter),
-        }
+        let outer = ids.outer_of_one(&options);
+        let Some(formatter) = NumberFormatter::with_outer(&ids, outer, &options) else {
+            return Err(FdError::Formatter);
+        };
+        format_text(alloc, &formatter, text, buffer)
     }
 
     /// Returns the options with their defaults, and the name of the numbering system.

@@ -2,7 +2,7 @@
 ghost use Rattle.std.specs.Prelude.{◌≡◌, IfSome, IfNone, IfOk, IfErr};
 ghost use Rattle.decimal_format.specs.Readable.{IsReadable};
 ghost use Rattle.number_format.specs.declared.read.number_reader.ParseMode.{ParseMode};
-ghost use Rattle.fixed_decimal_c.specs.Forms.{reading_code, IsLocaleAt, HasNoLocale, AreSymbolsOf, HasNoSymbols, IsReaderOf, FormFails, IsSkeletonReader, SkeletonReaderFails, ReaderFails, IsSkeletonFormatter, SkeletonFormFails, IsFormatOf, FormatFormFails};
+ghost use Rattle.fixed_decimal_c.specs.Forms.{reading_code, IsLocaleAt, HasNoLocale, AreSymbolsOf, HasNoSymbols, IsReaderOf, FormFails, IsSkeletonReader, SkeletonReaderFails, ReaderFails, IsSkeletonFormatter, SkeletonFormFails, IsFormatterOf, FormatFormFails};
 
 use crate::calls::part;
 use crate::error::FdError;
@@ -10,7 +10,7 @@ use crate::formatter::formatter_by_skeleton;
 use crate::locales::symbols_of_number;
 use crate::number_options::grouping;
 use crate::read::number_reader;
-use conversions::{DecimalReader, LocaleReader};
+use conversions::{DecimalReader, LocaleFormatter, LocaleReader};
 use decimal_format::{DecimalFormatter, DecimalSymbols};
 use locale_data::locale;
 use number_format::{NumberFormatter, NumberReader, ParseMode};
@@ -55,25 +55,6 @@ pub struct FdForms {
     pub read: FdForm,
     /// The form that the result is written in.
     pub format: FdForm,
-}
-
-/// What a decimal is formatted by.
-pub(crate) enum Format {
-    /// Nothing: it is written as its own text.
-    Own,
-    /// The symbols of a locale.
-    Symbols(DecimalFormatter<'static>),
-    /// The options of a number skeleton.
-    Skeleton(NumberFormatter),
-}
-
-// Not derived: a derived drop is proved again wherever a value is dropped.
-impl Drop for Format {
-    fn drop(self) {
-        match self {
-            Format::Own | Format::Symbols(_) | Format::Skeleton(_) => {}
-        }
-    }
 }
 
 fn reading(code: u8) -> Option<ParseMode>
@@ -178,20 +159,24 @@ fn skeleton_formatter(form: &FdForm, texts: &[u8]) -> Result<NumberFormatter, Fd
     formatter_by_skeleton(tag, skeleton)
 }
 
-/// Returns what a form formats by.
-pub(crate) fn formatter(form: &FdForm, texts: &[u8]) -> Result<Format, FdError>
-    ensures ok { IfOk result (IsFormatOf form.now texts.now) }
+/// Returns the formatter of a form, if it has one.
+pub(crate) fn formatter(
+    form: &FdForm,
+    texts: &[u8],
+) -> Result<Option<LocaleFormatter<'static>>, FdError>
+    ensures ok { IfOk result (IsFormatterOf form.now texts.now) }
     ensures err { IfErr result (λ error. FormatFormFails error form.now texts.now) }
 {
     if form.skeleton_count == 0 {
         let Some(symbols) = symbols(form, texts)? else {
-            return Ok(Format::Own);
+            return Ok(None);
         };
-        return match grouping(form.option) {
-            Some(strategy) => Ok(Format::Symbols(DecimalFormatter::new(symbols, strategy))),
-            None => Err(FdError::UnknownOption),
+        let Some(strategy) = grouping(form.option) else {
+            return Err(FdError::UnknownOption);
         };
+        let formatter = DecimalFormatter::new(symbols, strategy);
+        return Ok(Some(LocaleFormatter::AllDigits(formatter)));
     }
     let formatter = skeleton_formatter(form, texts)?;
-    Ok(Format::Skeleton(formatter))
+    Ok(Some(LocaleFormatter::Skeleton(formatter)))
 }

@@ -8,7 +8,8 @@ use crate::calls::{FdCall, INLINE_CALLS, calls_in, decode_calls};
 use crate::convert::Forms;
 use crate::error::FdError;
 use crate::formatter::FdFormatter;
-use crate::forms::{FdForms, Format};
+use crate::forms::FdForms;
+use conversions::LocaleFormatter;
 use fixed_decimal::Call;
 use memchr::memchr;
 use std::alloc::Global;
@@ -168,7 +169,7 @@ pub(crate) fn format_column(
         Some(formatter) => {
             let forms = Forms {
                 reader: None,
-                format: Format::Skeleton(formatter),
+                formatter: Some(LocaleFormatter::Skeleton(formatter)),
             };
             let (done, result) = forms.convert_lines(alloc, input, &[], skip, buffer);
             encode_column(done, result)

@@ -97,13 +97,9 @@ fn is_equation(operand: Operand, number: u64, relation: &RelationRow) -> bool
 fn have_equation(operand: Operand, number: u64, relations: TableRange) -> bool
     ensures { result ≡ list_any (is_equation operand number) (relations_in relations) }
 {
-    let rows = part(&PLURAL_RELATIONS, relations);
-    for relation in rows {
-        if is_equation(operand, number, relation) {
-            return true;
-        }
-    }
-    false
+    part(&PLURAL_RELATIONS, relations)
+        .iter()
+        .any(|relation| is_equation(operand, number, relation))
 }
 
 fn ask_for_one(relations: TableRange) -> bool
@@ -116,13 +112,9 @@ fn ask_for_one(relations: TableRange) -> bool
 fn all_ask_for_one(alternatives: TableRange) -> bool
     ensures { result ≡ list_all ask_for_one (map relations_in (part PLURAL_ALTERNATIVES alternatives)) }
 {
-    let rows = part(&PLURAL_ALTERNATIVES, alternatives);
-    for relations in rows {
-        if !ask_for_one(*relations) {
-            return false;
-        }
-    }
-    true
+    part(&PLURAL_ALTERNATIVES, alternatives)
+        .iter()
+        .all(|relations| ask_for_one(*relations))
 }
 
 fn asks_for_one(rule: &RuleRow) -> bool
@@ -138,11 +130,7 @@ fn asks_for_one(rule: &RuleRow) -> bool
 pub(crate) fn is_one_alone_in(rules: TableRange) -> bool
     ensures { result ≡ list_all asks_for_one (rules_in rules) }
 {
-    let rows = part(&PLURAL_RULE_ROWS, rules);
-    for rule in rows {
-        if !asks_for_one(rule) {
-            return false;
-        }
-    }
-    true
+    part(&PLURAL_RULE_ROWS, rules)
+        .iter()
+        .all(|rule| asks_for_one(rule))
 }

@@ -6,7 +6,7 @@ use Rattle.decimal_format.specs.{Formatted.{absolute_text, separator_before, sep
 use Rattle.locale_data.specs.{Compact.{pattern_for, patterns_in}, Plurals.IsCategoryAt, declared.{compact.CompactStyle.CompactStyle, tables.rows.compact.CompactPattern.CompactPattern}}
 use Rattle.plural_rules.specs.Operands as operands
 use Rattle.plural_rules.specs.declared.rules.PluralCategory.{PluralCategory}
-use Rattle.number_format.specs.{declared.{notation.scale.ShownNumber.ShownNumber, options.NumberNotation.NumberNotation, format.{outer.OuterAround.OuterAround, compact.CompactChoice.CompactChoice, formatted_number.FormattedNumber.FormattedNumber, formatter.NumberFormatter.NumberFormatter, text_part.PartKind.PartKind}}, NumberText.{around_by, bare_separator, hides_zero, compact_style, compact_pattern, compact_magnitude, has_categories, is_one, number_before_cut, shown_number, outer_by, outer_operands, exponent_of, number_part}, PatternTexts.{Around, sign_text, within}, Scaled.{ScaledValue, scaled_value}, TextParts.{Piece, digit_if, digit_pieces, parts_text, pieces_of, pieces_text}}
+use Rattle.number_format.specs.{declared.{notation.scale.ShownNumber.ShownNumber, options.NumberNotation.NumberNotation, format.{outer.OuterAround.OuterAround, compact.CompactChoice.CompactChoice, formatted_number.{FormattedNumber.FormattedNumber, NumberAround.NumberAround}, formatter.NumberFormatter.NumberFormatter, text_part.PartKind.PartKind}}, NumberText.{around_by, bare_separator, hides_zero, compact_style, compact_pattern, compact_magnitude, has_categories, is_one, number_before_cut, shown_number, outer_by, outer_operands, exponent_of, number_part, AreParts}, PatternTexts.{Around, sign_text, within}, Scaled.{ScaledValue, scaled_value}, TextParts.{Piece, digit_if, digit_pieces, parts_text, pieces_of, pieces_text}}
 
 -- the compact pattern that is chosen, in compact notation
 abbrev pub chosen_pattern : Option CompactStyle → CompactChoice → Option CompactPattern
@@ -104,14 +104,17 @@ inner_pieces n = within (around_of n) (number_pieces n)
 abbrev pub inner_text_if : FormattedNumber → Bool → List ℕ
 inner_text_if n has_number = if has_number then inner_text n else []
 
-abbrev pub inner_pieces_if : FormattedNumber → Bool → List Piece
-inner_pieces_if n has_number = if has_number then inner_pieces n else []
-
 -- texts of one kind, one after another, are what is around the whole text
 pub record IsOuter (a : Around) (shown : OuterAround) : Type 0 where
   pub prefix : pieces_of shown.kind (parts_text shown.before) ≡ a.prefix
   pub has_number : shown.has_number ≡ a.has_number
   pub suffix : pieces_of shown.kind (parts_text shown.after) ≡ a.suffix
+
+-- what is around the number and the whole text, and the exponent that is shown
+pub record IsNumberAround (n : FormattedNumber) (shown : NumberAround) : Type 0 where
+  pub outer : IsOuter (outer_of n) shown.outer
+  pub affixes : AreParts (around_of n) shown.affixes
+  pub exponent : shown.exponent ≡ exponent_of n.formatter.now.options.notation n.exponent
 
 -- what chooses the same compact pattern as a significand does
 pub record ChoosesPattern (f : NumberFormatter) (significand : Decimal) (e : ℤ) (choice : CompactChoice)

@@ -3,7 +3,7 @@ use Rattle.std.specs.Prelude.{◌≡◌, ◌⊎◌, ℕ, List, ◌++◌, Option,
 use Rattle.fixed_decimal.specs.Decimal.{Decimal}
 use Rattle.plural_rules.specs.declared.rules.PluralCategory.{PluralCategory}
 use Rattle.locale_data.specs.{declared.locales.LocaleId.LocaleId, Locales.AreRowsOf, RangeFormats.IsRangeFormat}
-use Rattle.number_format.specs.{declared.{format.{formatted_number.FormattedNumber.FormattedNumber, formatter.NumberFormatter.NumberFormatter}, range.{affixes.WideAffixes.WideAffixes, around.RangeAround.RangeAround, form.RangeForm.{RangeForm, TheVariants.{Approximate, Apart}}, formatted_range.{FormattedRange.FormattedRange, RangeSegment.{RangeSegment, TheVariants.{Prefix, Start, Middle, End, Suffix}}, RangeSource.{RangeSource, TheVariants.{Shared, StartRange, EndRange}}}, range_texts.RangeTexts.RangeTexts, segment.{Segment.Segment, Segments.Segments}}}, Formatters.system_text, FormattedNumbers.{around_of, number_pieces_if, number_text_if, outer_of, pattern_of, IsOuter}, NumberText.{outer_by, AreParts}, PatternTexts.Around, RangeText.{approximate_around, inner_pieces, range_by, range_category, separator_pieces, IsRangeEnd, RangeEnd, RangePieces, ShownRange, range_pieces, text_of_pieces}, TextParts.{Piece, parts_pieces, parts_text, pieces_of, pieces_text}}
+use Rattle.number_format.specs.{declared.{format.{formatted_number.FormattedNumber.FormattedNumber, formatter.NumberFormatter.NumberFormatter}, range.{affixes.WideAffixes.WideAffixes, around.RangeAround.RangeAround, form.RangeForm.{RangeForm, TheVariants.{Approximate, Apart}}, formatted_range.{FormattedRange.FormattedRange, RangeSegment.{RangeSegment, TheVariants.{Prefix, Start, Middle, End, Suffix}}, RangeSource.{RangeSource, TheVariants.{Shared, StartRange, EndRange}}}, range_texts.RangeTexts.RangeTexts}}, Formatters.system_text, FormattedNumbers.{around_of, outer_of, pattern_of, IsOuter}, NumberText.{exponent_of, outer_by, AreParts}, PatternTexts.Around, RangeText.{approximate_around, inner_pieces, range_by, range_category, separator_pieces, IsRangeEnd, RangeEnd, RangePieces, ShownRange, range_pieces, text_of_pieces}, TextParts.{Piece, parts_pieces, pieces_text}}
 
 -- ---- The texts of a locale.
 
@@ -74,46 +74,29 @@ AreApproximate t =
     AreWideAffixes
     (approximate_around t.start.formatter.now.style t.format.approximately t.start.value.sign (pattern_of t.start))
 
--- what is around the whole text and around the numbers, and the separator
+-- what is around the whole text and around the numbers, the exponents, and the separator
 pub record IsRangeAround (t : FormattedRange) (shown : RangeAround) : Type 0 where
   pub outer : IsOuter (outer_of t.start) shown.outer
   pub start : AreParts (around_of t.start) shown.start
+  pub start_exponent : shown.start_exponent ≡ exponent_of t.start.formatter.now.options.notation t.start.exponent
   pub end : t.form ≡ Apart → AreParts (around_of t.end) shown.end
+  pub end_exponent : shown.end_exponent ≡ exponent_of t.end.formatter.now.options.notation t.end.exponent
   pub approximate : t.form ≡ Approximate → AreApproximate t shown.approximate
-  pub separator : parts_pieces shown.separator ≡ separator_pieces t.format.separator t.spaced
+  pub separator : parts_pieces shown.separator.parts ≡ separator_pieces t.format.separator t.spaced
 
 -- the pieces of a segment without what is around the whole text
 abbrev pub inner_range_pieces : FormattedRange → RangeSegment → List Piece
 inner_range_pieces t = pieces_in (inner_pieces t.form (shown_range t))
 
--- a number between parts
-abbrev pub bare_pieces : Segment → List Piece
-bare_pieces s =
-    parts_pieces s.prefix.now ++ (number_pieces_if s.number.now s.has_number ++ parts_pieces s.suffix.now)
+-- the text between the prefix and the suffix
+abbrev pub numbers_text : FormattedRange → List ℕ
+numbers_text t =
+    pieces_text (inner_range_pieces t Start)
+    ++ (pieces_text (inner_range_pieces t Middle) ++ pieces_text (inner_range_pieces t End))
 
--- and what is before or after the whole text
-abbrev pub segment_pieces : Segment → List Piece
-segment_pieces s =
-    parts_pieces s.prefix.now
-    ++ (number_pieces_if s.number.now s.has_number
-    ++ (parts_pieces s.suffix.now ++ pieces_of s.kind (parts_text s.outer.now)))
-
-abbrev pub segment_text : Segment → List ℕ
-segment_text s =
-    parts_text s.prefix.now
-    ++ (number_text_if s.number.now s.has_number ++ (parts_text s.suffix.now ++ parts_text s.outer.now))
-
--- the text of the segments
-abbrev pub segments_text : Segments → List ℕ
-segments_text s =
-    segment_text s.prefix
-    ++ (segment_text s.start ++ (segment_text s.middle ++ (segment_text s.end ++ segment_text s.suffix)))
-
--- the text of the last three segments
-abbrev pub text_from_middle : FormattedRange → List ℕ
-text_from_middle t =
-    let text = λ (segment : RangeSegment). pieces_text (formatted_range_pieces t segment) in
-    text Middle ++ (text End ++ text Suffix)
+-- the text of a segment
+abbrev pub segment_text : FormattedRange → RangeSegment → List ℕ
+segment_text t segment = pieces_text (formatted_range_pieces t segment)
 
 -- a formatted number is an end of a range, and has the category of what is around the whole text
 abbrev pub IsFormattedEnd : NumberFormatter → Decimal → FormattedNumber → Type 0

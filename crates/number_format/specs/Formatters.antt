@@ -201,10 +201,3 @@ plain_options grouping system = record {
   decimal_separator = DecimalSeparatorDisplay.Auto;
   numbering_system = system;
 }
-
--- ---- Private: used only in the contracts of private functions.
-
--- a text is the numbering system of a currency; no other style depends on it
-abbrev pub IsSystemOf : NumberStyle → Option (List ℕ) → List ℕ → Type 0
-IsSystemOf (NumberStyle.Currency c) system text = system ≡ Some text
-IsSystemOf other system text = ⊤

@@ -5,6 +5,7 @@ pub mod Scaled
 pub mod AffixedTexts
 pub mod CompactReading
 pub mod TextParts
+pub mod TextSpans
 pub mod DefaultDigits
 pub mod DefaultOptions
 pub mod NumberStyles

@@ -144,9 +144,12 @@ pub record IsShownCurrency (currency : Option LocalCurrency) (style : CurrencySt
       (shown.wide.now ≡ symbol_text (wide_symbol currency)) × (shown.narrow.now ≡ symbol_text (narrow_symbol currency))
 
 -- a digit of `hanidec` is a letter, which no space separates from a currency
+abbrev pub keeps_spaces : List ℕ → Bool
+keeps_spaces system = not (bytes_eq system (codes "hanidec"))
+
 abbrev pub in_system : List ℕ → ShownCurrency → ShownCurrency
 in_system system c =
-    let spaced = not (bytes_eq system (codes "hanidec")) in
+    let spaced = keeps_spaces system in
     record c { space_before = c.space_before && spaced; space_after = c.space_after && spaced }
 
 -- a currency has a pattern of its own: only those in the tables give both separators

@@ -5,9 +5,12 @@ use Rattle.decimal_unsigned.specs.Unsigned.{Unsigned}
 use Rattle.decimal_format.specs.{Formatted.{separator_before, separator_after, shown_count}, Symbols.{Symbols, digit_text}, declared.grouping.GroupingStrategy.GroupingStrategy}
 use Rattle.number_format.specs.{declared.format.text_part.{PartKind.PartKind, TextPart.TextPart}, TrimmedTexts.{trimmed_length, kept_length}}
 
--- the texts of parts, one after another
+-- the text of a part, and those of parts, one after another
+abbrev pub part_text : TextPart → List ℕ
+part_text part = part.text.now
+
 abbrev pub parts_text : List TextPart → List ℕ
-parts_text = flat_map (λ part. part.text.now)
+parts_text = flat_map part_text
 
 -- a piece of a text
 pub record Piece : Type 0 where

@@ -6,4 +6,3 @@ pub(crate) mod form;
 pub(crate) mod format_range;
 pub(crate) mod formatted_range;
 pub(crate) mod range_texts;
-mod segment;

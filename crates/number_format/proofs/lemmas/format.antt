@@ -1,4 +1,6 @@
-pub mod PartTexts
+pub mod Appended
+pub mod FlatMaps
+pub mod SpanTexts
 pub mod PieceTexts
 pub mod PlainNumbers
 pub mod CompactChoices

@@ -1,10 +1,14 @@
 //! A currency as it is shown.
-ghost use Rattle.std.specs.Prelude.{◌≡◌, ◌≤◌, [], false, None, length};
-ghost use Rattle.number_format.specs.NumberStyles.{symbol_text, wide_symbol, narrow_symbol, currency_text, piece_or, ends_with_currency, begins_with_currency, in_system, IsShownBy, IsShownWith, IsShownCurrency};
+ghost use Rattle.std.specs.Prelude.{◌≡◌, ◌≤◌, ℕ, List, [], false, None, Some, length};
+ghost use Rattle.number_format.specs.NumberStyles.{symbol_text, wide_symbol, narrow_symbol, currency_text, piece_or, ends_with_currency, begins_with_currency, keeps_spaces, in_system, IsShownBy, IsShownWith, IsShownCurrency};
+ghost use Rattle.number_format.specs.Formatters.{system_text};
 
+use crate::format::ids::system_text;
 use crate::format::text_part::{PartKind, TextPart};
 use crate::options::{CurrencyDisplay, CurrencyStyle};
-use locale_data::{Affix, CurrencyCode, CurrencySymbol, LocalCurrency, Piece};
+use locale_data::{
+    Affix, CurrencyCode, CurrencySymbol, LocalCurrency, LocaleId, NumberingSystem, Piece,
+};
 
 /// A currency as it is shown.
 #[derive(Clone, Copy)]
@@ -42,6 +46,17 @@ fn narrow_symbol(currency: Option<LocalCurrency>) -> Option<CurrencySymbol>
     match currency {
         Some(currency) => Some(currency.narrow),
         None => None,
+    }
+}
+
+// Not inlined: most symbols have no spaces.
+#[inline(never)]
+fn keeps_spaces(symbols: LocaleId, name: &Option<NumberingSystem>) -> bool
+    ensures { (system : List ℕ) → system_text symbols name.now ≡ Some system → result ≡ keeps_spaces system }
+{
+    match system_text(symbols, name) {
+        Some(system) => system.as_bytes() != b"hanidec".as_slice(),
+        None => true,
     }
 }
 
@@ -110,11 +125,14 @@ impl ShownCurrency {
         }
     }
 
+    /// Returns the currency as it is shown in the numbering system of the options, or else of the symbols.
     #[inline(always)]
-    pub(crate) fn in_system(&self, system: &str) -> Self
-        ensures { result ≡ in_system system.now self.now }
+    pub(crate) fn in_system(&self, symbols: LocaleId, name: &Option<NumberingSystem>) -> Self
+        ensures { (system : List ℕ) → system_text symbols name.now ≡ Some system
+            → result ≡ in_system system self.now }
     {
-        let spaced = system.as_bytes() != b"hanidec".as_slice();
+        let has_spaces = self.space_before || self.space_after;
+        let spaced = has_spaces && keeps_spaces(symbols, name);
         ShownCurrency {
             space_before: self.space_before && spaced,
             space_after: self.space_after && spaced,

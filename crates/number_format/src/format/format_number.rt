@@ -1,11 +1,12 @@
 //! Formatting of a number.
-ghost use Rattle.std.specs.{Prelude.{◌≡◌, ◌≢◌, None, true, IfOk, IfErr, IsErrOf, OnOk}, Io.KnownBytes.Appends};
+ghost use Rattle.std.specs.{Prelude.{◌≡◌, ◌≢◌, ◌++◌, None, true, IfOk, IfErr, IsErrOf, OnOk, MatchOption}, Io.KnownBytes.Appends};
 ghost use Rattle.decimal_digits.specs.AppendsPrefix.{AppendsPrefix};
 ghost use Rattle.number_format.specs.{FormattedNumbers.{formatted_number_pieces, formatted_number_text}, NumberText.{shown_number, AreNumberPieces, IsNumberText, HasNumberText, WritingNeedsMemory, FormattingNeedsMemory}};
 
 use crate::format::compact::NO_CHOICE;
 use crate::format::formatted_number::FormattedNumber;
 use crate::format::formatter::NumberFormatter;
+use decimal_format::internal::Block;
 use fixed_decimal::{Decimal, RoundError, Sink, SinkFault, Writeable};
 use plural_rules::PluralCategory;
 use std::alloc::Global;
@@ -117,6 +118,34 @@ impl NumberFormatter {
         match number.write_to(sink) {
             Ok(()) => Ok(()),
             Err(SinkFault) => Err(NumberWriteError::Sink),
+        }
+    }
+
+    /// Formats a number, and appends the text to a block. If the text does not fit, the formatted number is returned.
+    ///
+    /// It is public for the crates of this repository only.
+    ///
+    /// # Errors
+    ///
+    /// The number is not formatted, as in [`write`](Self::write).
+    #[inline(always)]
+    pub fn write_to_block(
+        &self,
+        alloc: Global,
+        value: Decimal,
+        block: &mut Block,
+    ) -> Result<Option<FormattedNumber<'_>>, RoundError>
+        ensures ok { IfOk result (λ r. MatchOption r
+            (HasNumberText self.now value (λ text. block.new.0 ≡ block.old.0 ++ text))
+            (λ t. IsNumberText self.now value (formatted_number_text t))) }
+        ensures limit { IsErrOf result RoundError.Limit → shown_number self.now value ≡ None }
+        ensures memory { IsErrOf result RoundError.Memory → WritingNeedsMemory self.now value }
+    {
+        let mut number = self.number(alloc, value);
+        number.round()?;
+        match number.put_text(block) {
+            Ok(()) => Ok(None),
+            Err(SinkFault) => Ok(Some(number)),
         }
     }
 }

@@ -1,21 +1,21 @@
 //! A number as a locale writes it.
-ghost use Rattle.std.specs.{Prelude.{◌≡◌, ◌↔◌, ◌≤◌, ◌++◌, ℕ, length, Some, None, IsTrue, IfSome, IsErrOf, OnOk, OnErr, true, false, []}, Option.option_copied, Fmt.WritesStyledOnOk, Io.KnownBytes.Appends};
+ghost use Rattle.std.specs.{Prelude.{◌≡◌, ◌↔◌, ◌≤◌, ◌++◌, ℕ, length, None, Some, IsTrue, IfSome, IfNone, IsErrOf, OnOk, OnErr, true, false, []}, Option.option_copied, Io.KnownBytes.Appends};
 ghost use Rattle.decimal_digits.specs.AppendsPrefix.{AppendsPrefix};
 ghost use Rattle.fixed_decimal.specs.Decimal.{Decimal, displayed_sign};
-ghost use Rattle.decimal_format.specs.{Formatted.formatted_absolute, declared.grouping.GroupingStrategy.TheVariants.Never};
+ghost use Rattle.decimal_format.specs.{Formatted.{formatted_absolute}, declared.grouping.GroupingStrategy.TheVariants.Never};
 ghost use Rattle.locale_data.specs.Compact.{AreTexts};
-ghost use Rattle.number_format.specs.{FormattedNumbers.{digits_of, hides_zero_of, pattern_of, around_of, outer_of, exponent_text, number_text, number_text_if, number_pieces_if, separator_of, significand_text, around_text, inner_text, inner_text_if, inner_pieces, inner_pieces_if, formatted_number_pieces, formatted_number_text, ChoosesWhole, IsOuter, IsShownNumber}, NumberText.{compact_around, exponent_of, exponent_pieces, significand_pieces, shown_number, AreParts, AreNumberPieces, WritingNeedsMemory}, PatternTexts.{around, pattern_around}, TextParts.{parts_text, pieces_text, Puts, PutsPrefix}};
+ghost use Rattle.number_format.specs.{FormattedNumbers.{digits_of, hides_zero_of, pattern_of, around_of, outer_of, exponent_text, number_text, number_pieces_if, separator_of, significand_text, around_text, inner_text_if, formatted_number_pieces, formatted_number_text, ChoosesWhole, IsNumberAround, IsOuter, IsShownNumber}, NumberText.{compact_around, exponent_of, shown_number, AreParts, AreNumberPieces, WritingNeedsMemory}, PatternTexts.{around, pattern_around}, TextParts.{pieces_text, Puts, PutsPrefix}, TextSpans.{number_spans_pieces, spans_pieces, spans_text}};
 
 use crate::format::affixes::NumberAffixes;
 use crate::format::compact::CompactChoice;
 use crate::format::exponent::{exponent_kind, shown_exponent};
 use crate::format::formatter::NumberFormatter;
-use crate::format::fraction::{fmt_fraction, fraction_length, hides_zero, write_fraction};
-use crate::format::outer::{OuterAround, OuterTexts, put_outer};
-use crate::format::parts::{
-    PartSink, fmt_parts, parts_length, push_parts, put, put_digits, put_parts, write_parts,
-};
-use crate::format::text_part::PartKind;
+use crate::format::fraction::hides_zero;
+use crate::format::number_spans::{InnerSpans, NO_NUMBER, NumberSpans};
+use crate::format::outer::{OuterAround, OuterTexts};
+use crate::format::parts::{PartSink, push_parts};
+use crate::format::text_part::{PartKind, TextPart};
+use crate::format::text_span::{DigitSpan, TextSpan};
 use crate::notation::scale::ShownNumber;
 use crate::options::{DecimalSeparatorDisplay, NumberNotation, NumberStyle};
 use decimal_format::internal::{Block, put_to_block};
@@ -63,6 +63,25 @@ impl<'f> Drop for FormattedNumber<'f> {
             whole: _,
         } = self;
         drop(value);
+    }
+}
+
+/// What is around a number, and its exponent: made once for all spans of the text.
+struct NumberAround<'n> {
+    outer: OuterAround<'n>,
+    affixes: NumberAffixes<'n>,
+    /// The exponent that is shown.
+    exponent: Option<Decimal>,
+}
+
+impl<'n> Drop for NumberAround<'n> {
+    fn drop(self) {
+        let NumberAround {
+            outer: _,
+            affixes: _,
+            exponent,
+        } = self;
+        drop(exponent);
     }
 }
 
@@ -115,16 +134,8 @@ impl<'f> FormattedNumber<'f> {
         self.formatter.outer_around(self.whole)
     }
 
-    fn outer(&self) -> OuterAround<'_>
-        ensures parts { IsOuter (outer_of self.now) result }
-        ensures text { parts_text result.before ++ (inner_text_if self.now result.has_number
-            ++ parts_text result.after) ≡ formatted_number_text self.now }
-    {
-        self.outer_around()
-    }
-
     #[inline(never)]
-    fn shown_exponent(&self) -> Option<Decimal>
+    pub(crate) fn shown_exponent(&self) -> Option<Decimal>
         ensures { result ≡ exponent_of self.now.formatter.now.options.notation self.now.exponent }
     {
         match self.formatter.options.notation {
@@ -136,9 +147,7 @@ impl<'f> FormattedNumber<'f> {
     }
 
     pub(crate) fn affixes(&self) -> NumberAffixes<'_>
-        ensures parts { AreParts (around_of self.now) result }
-        ensures text { parts_text result.prefix ++ (number_text_if self.now result.has_number
-            ++ parts_text result.suffix) ≡ inner_text self.now }
+        ensures { AreParts (around_of self.now) result }
     {
         let style = &self.formatter.style;
         style.affixes(self.value.sign, self.compact_pattern())
@@ -174,20 +183,6 @@ impl<'f> FormattedNumber<'f> {
         FormattedAbsolute::new(symbols, GroupingStrategy::Never, &exponent.absolute)
     }
 
-    fn write_exponent<W: Sink>(&self, exponent: &Decimal, sink: &mut W) -> Result<(), SinkFault>
-        ensures ok { OnOk result (Appends (W.contents sink.old) (W.contents sink.new)
-            (exponent_text self.now.formatter.now (Some exponent.now))) }
-        ensures err { OnErr result (AppendsPrefix (W.contents sink.old) (W.contents sink.new)
-            (exponent_text self.now.formatter.now (Some exponent.now))) }
-        ensures failed { OnErr result (W.has_failed sink.new ≡ true) }
-    {
-        let formatter = self.formatter;
-        sink.put_bytes(formatter.separator.text.as_bytes())?;
-        let sign = formatter.style.symbols.affixes(exponent.sign).prefix;
-        sink.put_bytes(sign.as_bytes())?;
-        self.exponent_digits(exponent).write_to(sink)
-    }
-
     #[inline(always)]
     fn hides_zero(&self) -> bool
         ensures { result ≡ hides_zero_of self.now }
@@ -195,183 +190,6 @@ impl<'f> FormattedNumber<'f> {
         let formatter = self.formatter;
         let display = formatter.options.decimal_separator;
         hides_zero(&formatter.digits, display, &self.value.absolute)
-    }
-
-    fn write_digits<W: Sink>(&self, sink: &mut W) -> Result<(), SinkFault>
-        ensures ok { OnOk result (Appends (W.contents sink.old) (W.contents sink.new) (digits_of self.now)) }
-        ensures err { OnErr result
-            (AppendsPrefix (W.contents sink.old) (W.contents sink.new) (digits_of self.now)) }
-        ensures failed { OnErr result (W.has_failed sink.new ≡ true) }
-    {
-        if self.hides_zero() {
-            return write_fraction(&self.digits(), sink);
-        }
-        self.digits().write_to(sink)
-    }
-
-    fn write_significand<W: Sink>(&self, sink: &mut W) -> Result<(), SinkFault>
-        ensures ok { OnOk result
-            (Appends (W.contents sink.old) (W.contents sink.new) (significand_text self.now)) }
-        ensures err { OnErr result
-            (AppendsPrefix (W.contents sink.old) (W.contents sink.new) (significand_text self.now)) }
-        ensures failed { OnErr result (W.has_failed sink.new ≡ true) }
-    {
-        self.write_digits(sink)?;
-        sink.put_bytes(self.separator().as_bytes())
-    }
-
-    pub(crate) fn write_number_if<W: Sink>(
-        &self,
-        has_number: bool,
-        sink: &mut W,
-    ) -> Result<(), SinkFault>
-        ensures ok { OnOk result
-            (Appends (W.contents sink.old) (W.contents sink.new) (number_text_if self.now has_number)) }
-        ensures err { OnErr result
-            (AppendsPrefix (W.contents sink.old) (W.contents sink.new) (number_text_if self.now has_number)) }
-        ensures failed { OnErr result (W.has_failed sink.new ≡ true) }
-    {
-        if !has_number {
-            return Ok(());
-        }
-        self.write_significand(sink)?;
-        match &self.shown_exponent() {
-            Some(exponent) => self.write_exponent(exponent, sink),
-            None => Ok(()),
-        }
-    }
-
-    fn fmt_digits<W: fmt::Write>(&self, f: &mut fmt::Formatter<W>) -> fmt::Result
-        ensures { WritesStyledOnOk W.write_str_gives f.old result (digits_of self.now) f.new }
-    {
-        if self.hides_zero() {
-            return fmt_fraction(&self.digits(), f);
-        }
-        fmt::Display::fmt(&self.digits(), f)
-    }
-
-    fn fmt_significand<W: fmt::Write>(&self, f: &mut fmt::Formatter<W>) -> fmt::Result
-        ensures { WritesStyledOnOk W.write_str_gives f.old result (significand_text self.now) f.new }
-    {
-        self.fmt_digits(f)?;
-        f.write_str(self.separator())
-    }
-
-    pub(crate) fn fmt_number_if<W: fmt::Write>(
-        &self,
-        has_number: bool,
-        f: &mut fmt::Formatter<W>,
-    ) -> fmt::Result
-        ensures { WritesStyledOnOk W.write_str_gives f.old result (number_text_if self.now has_number) f.new }
-    {
-        if !has_number {
-            return Ok(());
-        }
-        let formatter = self.formatter;
-        self.fmt_significand(f)?;
-        match &self.shown_exponent() {
-            Some(exponent) => {
-                f.write_str(formatter.separator.text)?;
-                f.write_str(formatter.style.symbols.affixes(exponent.sign).prefix)?;
-                fmt::Display::fmt(&self.exponent_digits(exponent), f)
-            }
-            None => Ok(()),
-        }
-    }
-
-    fn write_inner<W: Sink>(&self, sink: &mut W) -> Result<(), SinkFault>
-        ensures ok { OnOk result (Appends (W.contents sink.old) (W.contents sink.new) (inner_text self.now)) }
-        ensures err { OnErr result
-            (AppendsPrefix (W.contents sink.old) (W.contents sink.new) (inner_text self.now)) }
-        ensures failed { OnErr result (W.has_failed sink.new ≡ true) }
-    {
-        let affixes = self.affixes();
-        write_parts(&affixes.prefix, sink)?;
-        self.write_number_if(affixes.has_number, sink)?;
-        write_parts(&affixes.suffix, sink)
-    }
-
-    fn write_inner_if<W: Sink>(&self, has_number: bool, sink: &mut W) -> Result<(), SinkFault>
-        ensures ok { OnOk result
-            (Appends (W.contents sink.old) (W.contents sink.new) (inner_text_if self.now has_number)) }
-        ensures err { OnErr result
-            (AppendsPrefix (W.contents sink.old) (W.contents sink.new) (inner_text_if self.now has_number)) }
-        ensures failed { OnErr result (W.has_failed sink.new ≡ true) }
-    {
-        if !has_number {
-            return Ok(());
-        }
-        self.write_inner(sink)
-    }
-
-    #[inline(never)]
-    fn write_pieces<W: Sink>(&self, sink: &mut W) -> Result<(), SinkFault>
-        ensures ok { OnOk result
-            (Appends (W.contents sink.old) (W.contents sink.new) (formatted_number_text self.now)) }
-        ensures err { OnErr result
-            (AppendsPrefix (W.contents sink.old) (W.contents sink.new) (formatted_number_text self.now)) }
-        ensures failed { OnErr result (W.has_failed sink.new ≡ true) }
-    {
-        let outer = self.outer();
-        write_parts(&outer.before, sink)?;
-        self.write_inner_if(outer.has_number, sink)?;
-        write_parts(&outer.after, sink)
-    }
-
-    fn fmt_inner_if<W: fmt::Write>(
-        &self,
-        has_number: bool,
-        f: &mut fmt::Formatter<W>,
-    ) -> fmt::Result
-        ensures { WritesStyledOnOk W.write_str_gives f.old result (inner_text_if self.now has_number) f.new }
-    {
-        if !has_number {
-            return Ok(());
-        }
-        let affixes = self.affixes();
-        fmt_parts(&affixes.prefix, f)?;
-        self.fmt_number_if(affixes.has_number, f)?;
-        fmt_parts(&affixes.suffix, f)
-    }
-
-    fn digits_length(&self) -> usize
-        ensures value { result ≡ length (digits_of self.now) }
-        ensures at_most { result ≤ 8618239 }
-    {
-        if self.hides_zero() {
-            return fraction_length(&self.digits());
-        }
-        self.digits().writeable_length_hint()
-    }
-
-    pub(crate) fn number_length(&self) -> usize
-        ensures value { result ≡ length (number_text self.now) }
-        ensures at_most { result ≤ 17237243 }
-    {
-        let formatter = self.formatter;
-        let digits = self.digits_length() + self.separator().len();
-        match &self.shown_exponent() {
-            Some(exponent) => {
-                digits
-                    + formatter.separator.text.len()
-                    + formatter.style.symbols.affixes(exponent.sign).prefix.len()
-                    + self.exponent_digits(exponent).writeable_length_hint()
-            }
-            None => digits,
-        }
-    }
-
-    fn inner_length(&self) -> usize
-        ensures value { result ≡ length (inner_text self.now) }
-        ensures at_most { result ≤ 17240100 }
-    {
-        let affixes = self.affixes();
-        let number = if affixes.has_number {
-            self.number_length()
-        } else {
-            0
-        };
-        parts_length(&affixes.prefix) + number + parts_length(&affixes.suffix)
     }
 
     fn push_exponent(&self, exponent: &Decimal, block: &mut Block) -> Result<(), SinkFault>
@@ -429,7 +247,7 @@ impl<'f> FormattedNumber<'f> {
     }
 
     #[inline(always)]
-    fn put_digits(&self, block: &mut Block) -> Result<(), SinkFault>
+    pub(crate) fn put_digits(&self, block: &mut Block) -> Result<(), SinkFault>
         ensures { OnOk result (block.new.0 ≡ block.old.0 ++ number_text self.now) }
     {
         self.push_significand(block)?;
@@ -463,7 +281,7 @@ impl<'f> FormattedNumber<'f> {
     }
 
     #[inline(always)]
-    fn put_around(&self, block: &mut Block) -> Result<(), SinkFault>
+    pub(crate) fn put_around(&self, block: &mut Block) -> Result<(), SinkFault>
         ensures { OnOk result (block.new.0 ≡ block.old.0 ++ around_text self.now (around_of self.now)) }
     {
         match self.compact_pattern() {
@@ -474,8 +292,55 @@ impl<'f> FormattedNumber<'f> {
         }
     }
 
+    /// Returns the compact pattern, if it is not written by the pattern of the style.
     #[inline(always)]
-    fn has_outer(&self) -> bool
+    fn compact_affixes(&self) -> Option<&'static CompactPattern>
+        ensures texts { IfSome result (λ pattern. AreTexts pattern.now) }
+        ensures some { IfSome result (λ pattern. around_of self.now
+            ≡ compact_around self.now.formatter.now.style self.now.value.sign pattern.now) }
+        ensures none { IfNone result (around_of self.now
+            ≡ pattern_around self.now.formatter.now.style self.now.value.sign) }
+    {
+        match self.compact_pattern() {
+            Some(pattern) if !matches!(pattern.form, CompactForm::Plain) => Some(pattern),
+            _ => None,
+        }
+    }
+
+    /// Returns whether the number is written between its affixes.
+    pub(crate) fn has_number(&self) -> bool
+        ensures { result ≡ (around_of self.now).has_number }
+    {
+        match self.compact_affixes() {
+            Some(pattern) => !matches!(pattern.form, CompactForm::Literal),
+            None => true,
+        }
+    }
+
+    /// Appends what is before the number.
+    pub(crate) fn put_prefix(&self, block: &mut Block) -> Result<(), SinkFault>
+        ensures { OnOk result (block.new.0 ≡ block.old.0 ++ pieces_text (around_of self.now).prefix) }
+    {
+        let style = &self.formatter.style;
+        match self.compact_affixes() {
+            Some(pattern) => style.put_compact_prefix(self.value.sign, pattern, block),
+            None => style.put_prefix(self.value.sign, block),
+        }
+    }
+
+    /// Appends what is after the number.
+    pub(crate) fn put_suffix(&self, block: &mut Block) -> Result<(), SinkFault>
+        ensures { OnOk result (block.new.0 ≡ block.old.0 ++ pieces_text (around_of self.now).suffix) }
+    {
+        let style = &self.formatter.style;
+        match self.compact_affixes() {
+            Some(pattern) => style.put_compact_suffix(&pattern.suffix, block),
+            None => style.put_suffix(self.value.sign, block),
+        }
+    }
+
+    #[inline(always)]
+    pub(crate) fn has_outer(&self) -> bool
         ensures { result ≡ false → outer_of self.now ≡ around [] true [] }
     {
         let formatter = self.formatter;
@@ -502,14 +367,14 @@ impl<'f> FormattedNumber<'f> {
     fn put_with_outer(&self, block: &mut Block) -> Result<(), SinkFault>
         ensures { OnOk result (block.new.0 ≡ block.old.0 ++ formatted_number_text self.now) }
     {
-        let outer = self.outer();
+        let outer = self.outer_around();
         push_parts(&outer.before, block)?;
         self.put_around_if(outer.has_number, block)?;
         push_parts(&outer.after, block)
     }
 
     #[inline(always)]
-    fn put_text(&self, block: &mut Block) -> Result<(), SinkFault>
+    pub(crate) fn put_text(&self, block: &mut Block) -> Result<(), SinkFault>
         ensures { OnOk result (block.new.0 ≡ block.old.0 ++ formatted_number_text self.now) }
     {
         if self.has_outer() {
@@ -518,79 +383,93 @@ impl<'f> FormattedNumber<'f> {
         self.put_around(block)
     }
 
-    fn put_exponent<P: PartSink>(&self, exponent: &Decimal, sink: &mut P) -> Result<(), SinkFault>
-        ensures ok { OnOk result (Puts (P.pieces sink.old) (P.pieces sink.new)
-            (exponent_pieces self.now.formatter.now (Some exponent.now))) }
-        ensures err { OnErr result (PutsPrefix (P.pieces sink.old) (P.pieces sink.new)
-            (exponent_pieces self.now.formatter.now (Some exponent.now))) }
-        ensures failed { OnErr result (P.has_failed sink.new ≡ true) }
-    {
-        let formatter = self.formatter;
-        put(sink, PartKind::ExponentSeparator, formatter.separator.text)?;
-        let sign = formatter.style.symbols.affixes(exponent.sign).prefix;
-        put(sink, exponent_kind(exponent.sign), sign)?;
-        put_digits(
-            &self.exponent_digits(exponent),
-            PartKind::ExponentInteger,
-            false,
-            sink,
-        )
-    }
-
-    fn put_significand<P: PartSink>(&self, sink: &mut P) -> Result<(), SinkFault>
-        ensures ok { OnOk result (Puts (P.pieces sink.old) (P.pieces sink.new)
-            (significand_pieces self.now.formatter.now self.now.formatter.now.digits
-            self.now.formatter.now.options.decimal_separator self.now.value.absolute)) }
-        ensures err { OnErr result (PutsPrefix (P.pieces sink.old) (P.pieces sink.new)
-            (significand_pieces self.now.formatter.now self.now.formatter.now.digits
-            self.now.formatter.now.options.decimal_separator self.now.value.absolute)) }
-        ensures failed { OnErr result (P.has_failed sink.new ≡ true) }
-    {
-        put_digits(&self.digits(), PartKind::Integer, self.hides_zero(), sink)?;
-        put(sink, PartKind::Decimal, self.separator())
-    }
-
-    pub(crate) fn put_number_if<P: PartSink>(
-        &self,
+    /// Returns the spans of the number, if it is written. The exponent is that which is shown.
+    pub(crate) fn number_spans<'n>(
+        &'n self,
         has_number: bool,
-        sink: &mut P,
-    ) -> Result<(), SinkFault>
-        ensures ok { OnOk result (Puts (P.pieces sink.old) (P.pieces sink.new) (number_pieces_if self.now has_number)) }
-        ensures err { OnErr result
-            (PutsPrefix (P.pieces sink.old) (P.pieces sink.new) (number_pieces_if self.now has_number)) }
-        ensures failed { OnErr result (P.has_failed sink.new ≡ true) }
+        exponent: &'n Option<Decimal>,
+    ) -> NumberSpans<'n>
+        requires { exponent.now ≡ exponent_of self.now.formatter.now.options.notation self.now.exponent }
+        ensures { number_spans_pieces result ≡ number_pieces_if self.now has_number }
     {
         if !has_number {
-            return Ok(());
+            return NO_NUMBER;
         }
-        self.put_significand(sink)?;
-        match &self.shown_exponent() {
-            Some(exponent) => self.put_exponent(exponent, sink),
-            None => Ok(()),
+        let formatter = self.formatter;
+        let symbols = &formatter.style.symbols;
+        let digits = TextSpan::Digits(DigitSpan {
+            symbols,
+            strategy: formatter.options.grouping,
+            value: &self.value.absolute,
+            whole: PartKind::Integer,
+            is_hidden: self.hides_zero(),
+        });
+        let separator = TextSpan::Part(TextPart::new(PartKind::Decimal, self.separator()));
+        let Some(exponent) = exponent else {
+            return NumberSpans {
+                digits,
+                separator,
+                ..NO_NUMBER
+            };
+        };
+        let sign = symbols.affixes(exponent.sign).prefix;
+        let exponent_sign = TextSpan::Part(TextPart::new(exponent_kind(exponent.sign), sign));
+        let separator_text = formatter.separator.text;
+        let exponent_separator = TextSpan::Part(TextPart::new(
+            PartKind::ExponentSeparator,
+            separator_text,
+        ));
+        let exponent = TextSpan::Digits(DigitSpan {
+            symbols,
+            strategy: GroupingStrategy::Never,
+            value: &exponent.absolute,
+            whole: PartKind::ExponentInteger,
+            is_hidden: false,
+        });
+        NumberSpans {
+            digits,
+            separator,
+            exponent_separator,
+            exponent_sign,
+            exponent,
         }
     }
 
-    fn put_inner<P: PartSink>(&self, sink: &mut P) -> Result<(), SinkFault>
-        ensures ok { OnOk result (Puts (P.pieces sink.old) (P.pieces sink.new) (inner_pieces self.now)) }
-        ensures err { OnErr result (PutsPrefix (P.pieces sink.old) (P.pieces sink.new) (inner_pieces self.now)) }
-        ensures failed { OnErr result (P.has_failed sink.new ≡ true) }
+    /// Returns what is around the number, and its exponent.
+    fn around(&self) -> NumberAround<'_>
+        ensures { IsNumberAround self.now result }
     {
-        let affixes = self.affixes();
-        put_parts(sink, &affixes.prefix)?;
-        self.put_number_if(affixes.has_number, sink)?;
-        put_parts(sink, &affixes.suffix)
+        let (outer, affixes) = (self.outer_around(), self.affixes());
+        NumberAround {
+            outer,
+            affixes,
+            exponent: self.shown_exponent(),
+        }
     }
 
-    fn put_inner_if<P: PartSink>(&self, has_number: bool, sink: &mut P) -> Result<(), SinkFault>
-        ensures ok { OnOk result (Puts (P.pieces sink.old) (P.pieces sink.new) (inner_pieces_if self.now has_number)) }
-        ensures err { OnErr result
-            (PutsPrefix (P.pieces sink.old) (P.pieces sink.new) (inner_pieces_if self.now has_number)) }
-        ensures failed { OnErr result (P.has_failed sink.new ≡ true) }
+    fn spans<'n>(&'n self, around: &'n NumberAround<'n>) -> [TextSpan<'n>; 9]
+        requires { IsNumberAround self.now around.now }
+        ensures pieces { spans_pieces result ≡ formatted_number_pieces self.now }
+        ensures text { spans_text result ≡ formatted_number_text self.now }
     {
-        if !has_number {
-            return Ok(());
-        }
-        self.put_inner(sink)
+        let (outer, affixes) = (&around.outer, &around.affixes);
+        let number = self.number_spans(affixes.has_number, &around.exponent);
+        let inner = InnerSpans::between(&affixes.prefix, number, &affixes.suffix);
+        let before = TextSpan::joined(outer.kind, &outer.before);
+        let after = TextSpan::joined(outer.kind, &outer.after);
+        inner.if_shown(outer.has_number).within(before, after)
+    }
+
+    #[inline(never)]
+    fn write_spans<W: Sink>(&self, sink: &mut W) -> Result<(), SinkFault>
+        ensures ok { OnOk result
+            (Appends (W.contents sink.old) (W.contents sink.new) (formatted_number_text self.now)) }
+        ensures err { OnErr result
+            (AppendsPrefix (W.contents sink.old) (W.contents sink.new) (formatted_number_text self.now)) }
+        ensures failed { OnErr result (W.has_failed sink.new ≡ true) }
+    {
+        let around = self.around();
+        TextSpan::write_all(&self.spans(&around), sink)
     }
 
     /// Puts the pieces of the text with their kinds: consecutive pieces of one kind are one part of `formatToParts` of
@@ -607,10 +486,8 @@ impl<'f> FormattedNumber<'f> {
             (PutsPrefix (P.pieces sink.old) (P.pieces sink.new) (formatted_number_pieces self.now)) }
         ensures failed { OnErr result (P.has_failed sink.new ≡ true) }
     {
-        let outer = self.outer();
-        put_outer(sink, outer.kind, &outer.before)?;
-        self.put_inner_if(outer.has_number, sink)?;
-        put_outer(sink, outer.kind, &outer.after)
+        let around = self.around();
+        TextSpan::put_all(&self.spans(&around), sink)
     }
 }
 
@@ -630,19 +507,14 @@ impl<'f> Writeable for FormattedNumber<'f> {
         let mut block = Block::new();
         match self.put_text(&mut block) {
             Ok(()) => sink.put_bytes(block.as_bytes()),
-            Err(SinkFault) => self.write_pieces(sink),
+            Err(SinkFault) => self.write_spans(sink),
         }
     }
 
     /// Returns the exact number of bytes of the text.
     fn writeable_length_hint(&self) -> usize {
-        let outer = self.outer();
-        let inner = if outer.has_number {
-            self.inner_length()
-        } else {
-            0
-        };
-        parts_length(&outer.before) + inner + parts_length(&outer.after)
+        let around = self.around();
+        TextSpan::length_of_all(&self.spans(&around))
     }
 }
 
@@ -657,9 +529,7 @@ impl<'f> fmt::Display for FormattedNumber<'f> {
     ///
     /// The formatter fails.
     fn fmt<W: fmt::Write>(&self, f: &mut fmt::Formatter<W>) -> fmt::Result {
-        let outer = self.outer();
-        fmt_parts(&outer.before, f)?;
-        self.fmt_inner_if(outer.has_number, f)?;
-        fmt_parts(&outer.after, f)
+        let around = self.around();
+        TextSpan::fmt_all(&self.spans(&around), f)
     }
 }

@@ -6,7 +6,7 @@ use crate::digits::options::DigitOptions;
 use crate::format::affixes::StyleTexts;
 use crate::format::compact::{CompactChoice, NO_CHOICE, compact_magnitude, is_one};
 use crate::format::exponent::{exponent_operand, exponent_shift};
-use crate::format::ids::{FormatterIds, NumberFormatError, currency_by, style_system};
+use crate::format::ids::{FormatterIds, NumberFormatError, currency_by};
 use crate::format::outer::{OuterAround, OuterTexts};
 use crate::format::style::{
     notation_of, percent_kind, percent_text, shown_digits, style_of, style_sizes, with_separators,
@@ -97,14 +97,13 @@ impl NumberFormatter {
     /// let ids = FormatterIds::of("de", &options)?;
     /// NumberFormatter::at(&ids, &options) // the formatter of de
     /// ```
-    // Inlined, so that the formatter is not copied.
+    // Inlined, so that the formatter is copied once less.
     #[inline(always)]
     pub fn at(ids: &FormatterIds, options: &NumberOptions) -> Option<NumberFormatter>
         ensures some { IfSome result (IsFormatterAt ids.now options.now) }
         ensures none { IfNone result (LacksRows ids.now) }
     {
-        let outer = ids.outer.alone(options.style, options.notation);
-        Self::with_outer(ids, outer, options)
+        Self::with_outer(ids, ids.outer_of_one(options), options)
     }
 
     /// Makes the formatter of rows of tables and options for [`format_range`](Self::format_range), as
@@ -121,8 +120,16 @@ impl NumberFormatter {
         Self::with_outer(ids, ids.outer, options)
     }
 
+    /// Makes the formatter of rows of tables, of texts around the whole text instead of those of the rows, and of
+    /// options. Returns `None` if there are no such rows. With [`FormatterIds::outer_of_one`] it is [`at`](Self::at) in
+    /// less time, since the formatter is not copied.
+    ///
+    /// ```
+    /// let outer = ids.outer_of_one(&options);
+    /// NumberFormatter::with_outer(&ids, outer, &options) // the formatter of de
+    /// ```
     #[inline(always)]
-    fn with_outer(
+    pub fn with_outer(
         ids: &FormatterIds,
         texts: OuterTexts,
         options: &NumberOptions,
@@ -131,15 +138,15 @@ impl NumberFormatter {
         ensures none { IfNone result (LacksRows ids.now) }
     {
         let symbols = symbols_at(ids.symbols)?;
-        let system = style_system(ids.symbols, options)?;
         let _rules = rules_text_at(ids.rules)?;
         let currency = currency_by(ids.currency)?;
         let own = symbols.sizes();
         let outer = texts.in_style(options.style);
-        let (written, shown) = style_of(system, own, &ids.formats, currency, &outer, options);
+        let formats = &ids.formats;
+        let (written, shown) = style_of(ids.symbols, own, formats, currency, &outer, options);
         let strategy = options.grouping;
         let sizes = style_sizes(&written.pattern, options.group_sizes, strategy, own);
-        let signs = ids.formats.signs();
+        let signs = formats.signs();
         let percent = percent_text(options.style, signs);
         let style = StyleTexts {
             symbols: with_separators(symbols, &written).with_sizes(sizes),
@@ -154,7 +161,7 @@ impl NumberFormatter {
             formats: ids.formats,
             rules: ids.rules,
             options: *options,
-            notation: notation_of(options, &ids.formats),
+            notation: notation_of(options, formats),
             digits: shown_digits(options, currency),
         })
     }

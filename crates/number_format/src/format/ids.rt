@@ -1,7 +1,7 @@
 //! The rows of tables of which a formatter is made.
 ghost use Rattle.std.specs.{Prelude.{◌≡◌, None, IfOk, IfErr, IfSome, IfNone, IsSomeAnd}, Option.option_copied};
 ghost use Rattle.locale_data.specs.{Currencies.LacksCurrency, Locales.{symbols_at, IsUnknown}};
-ghost use Rattle.number_format.specs.Formatters.{system_text, IsSystemOf, LacksRows, IsCurrencyBy, IsCurrencyRow, AreSymbolsOf, AreIdsOf, IsFormatterError};
+ghost use Rattle.number_format.specs.{Formatters.{system_text, LacksRows, IsCurrencyBy, IsCurrencyRow, AreSymbolsOf, AreIdsOf, IsFormatterError}, NumberStyles.outer_alone};
 
 use crate::format::outer::OuterTexts;
 use crate::options::{NumberOptions, NumberStyle};
@@ -47,19 +47,6 @@ pub(crate) fn system_text(id: LocaleId, name: &Option<NumberingSystem>) -> Optio
     }
 }
 
-/// Returns the name of the numbering system of a currency, and an empty one for the styles that do not depend on it.
-#[inline(always)]
-pub(crate) fn style_system(id: LocaleId, options: &NumberOptions) -> Option<&str>
-    ensures value { IfSome result
-        (λ s. IsSystemOf options.now.style (system_text id options.now.numbering_system) s.now) }
-    ensures none { IfNone result (symbols_at id ≡ None) }
-{
-    match options.style {
-        NumberStyle::Currency(_) => system_text(id, &options.numbering_system),
-        _ => Some(""),
-    }
-}
-
 /// Returns what a row has for a currency, if there is one, and `None` if the tables lack it.
 #[inline(always)]
 pub(crate) fn currency_by(row: Option<CurrencyId>) -> Option<Option<LocalCurrency>>
@@ -100,6 +87,14 @@ fn currency_row(tag: &str, style: NumberStyle) -> Option<CurrencyId>
 }
 
 impl FormatterIds {
+    /// Returns the texts around one number, of those around a range.
+    #[inline(always)]
+    pub fn outer_of_one(&self, options: &NumberOptions) -> OuterTexts
+        ensures { result ≡ outer_alone options.now.style options.now.notation self.now.outer }
+    {
+        self.outer.alone(options.style, options.notation)
+    }
+
     /// Finds the rows of a locale and options.
     ///
     /// # Errors

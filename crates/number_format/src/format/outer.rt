@@ -1,15 +1,11 @@
 //! What is written around the whole text of a number, its sign included: the text of a unit, or the name of a currency.
-ghost use Rattle.std.specs.Prelude.{◌≡◌, ◌≤◌, ◌++◌, [], length, OnOk, OnErr, true};
+ghost use Rattle.std.specs.Prelude.{◌≡◌, ◌≤◌, ◌++◌, [], length, true};
 ghost use Rattle.locale_names.specs.LocaleUnits.{joined_texts, around_number, AreShort};
-ghost use Rattle.number_format.specs.{FormattedNumbers.IsOuter, NumberStyles.{is_percentage, outer_alone, outer_for, shows_name, AreNameTexts, AreOuterTexts, AreUnitTexts}, NumberText.{around_texts, name_texts, place_of, with_number}, PatternTexts.around, TextParts.{parts_text, pieces_of, Puts, PutsPrefix}};
+ghost use Rattle.number_format.specs.{FormattedNumbers.IsOuter, NumberStyles.{is_percentage, outer_alone, outer_for, shows_name, AreNameTexts, AreOuterTexts, AreUnitTexts}, NumberText.{around_texts, name_texts, place_of, with_number}, PatternTexts.around, TextParts.parts_text};
 ghost use Rattle.locale_names.specs.LocaleCurrencies.{name_for, pattern_for};
 
-use crate::format::parts::{PartSink, put};
-use crate::format::short_affixes::joined;
 use crate::format::text_part::{PartKind, TextPart};
 use crate::options::{CurrencyStyle, NumberNotation, NumberStyle, UnitStyle};
-use arrayvec::ArrayString;
-use fixed_decimal::SinkFault;
 use locale_data::UnitAffixes;
 use locale_names::{CurrencyNames, UnitDisplay, UnitPatterns, currency_names, unit_patterns};
 use plural_rules::PluralCategory;
@@ -249,20 +245,4 @@ impl<'f> OuterAround<'f> {
         let between = between_text(names, category);
         Self::named(name, is_number_first(names, category), between)
     }
-}
-
-/// Puts texts of one kind as one piece.
-pub(crate) fn put_outer<P: PartSink>(
-    sink: &mut P,
-    kind: PartKind,
-    texts: &[TextPart<'_>],
-) -> Result<(), SinkFault>
-    requires { length texts.now ≤ 4 }
-    ensures ok { OnOk result (Puts (P.pieces sink.old) (P.pieces sink.new) (pieces_of kind (parts_text texts.now))) }
-    ensures err { OnErr result
-        (PutsPrefix (P.pieces sink.old) (P.pieces sink.new) (pieces_of kind (parts_text texts.now))) }
-    ensures failed { OnErr result (P.has_failed sink.new ≡ true) }
-{
-    let text: ArrayString<1020> = joined(texts).unwrap();
-    put(sink, kind, text.as_str())
 }

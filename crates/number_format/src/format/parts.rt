@@ -4,8 +4,10 @@ ghost use Rattle.decimal_digits.specs.AppendsPrefix.{AppendsPrefix};
 ghost use Rattle.decimal_format.specs.Formatted.{shown_count};
 ghost use Rattle.number_format.specs.TextParts.{Piece, Puts, PutsPrefix, is_shown, is_whole, piece_of, pieces_of, pieces_to_end, trimmed_pieces, part_pieces, parts_pieces, parts_text, pieces_text, digit_if, digit_kind, magnitude_pieces, digit_pieces};
 
+use crate::format::short_affixes::joined;
 use crate::format::text_part::{PartKind, TextPart};
 use crate::format::trimmed::{split_end, split_start};
+use arrayvec::ArrayString;
 use decimal_format::FormattedAbsolute;
 use decimal_format::internal::Block;
 use fixed_decimal::{DecimalStore, Sink, SinkFault};
@@ -159,6 +161,22 @@ pub(crate) fn put_parts<P: PartSink>(sink: &mut P, parts: &[TextPart<'_>]) -> Re
         put(sink, part.kind, part.text)?;
     }
     Ok(())
+}
+
+/// Puts texts of one kind as one piece.
+pub(crate) fn put_joined<P: PartSink>(
+    sink: &mut P,
+    kind: PartKind,
+    texts: &[TextPart<'_>],
+) -> Result<(), SinkFault>
+    requires { length texts.now ≤ 10 }
+    ensures ok { OnOk result (Puts (P.pieces sink.old) (P.pieces sink.new) (pieces_of kind (parts_text texts.now))) }
+    ensures err { OnErr result
+        (PutsPrefix (P.pieces sink.old) (P.pieces sink.new) (pieces_of kind (parts_text texts.now))) }
+    ensures failed { OnErr result (P.has_failed sink.new ≡ true) }
+{
+    let text: ArrayString<2550> = joined(texts).unwrap();
+    put(sink, kind, text.as_str())
 }
 
 fn digit_kind(whole: PartKind, magnitude: i16) -> PartKind

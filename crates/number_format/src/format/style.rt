@@ -1,6 +1,6 @@
 //! What a locale has for the options: the pattern, separators and currency of the style, and the exponents.
-ghost use Rattle.std.specs.Prelude.{◌≡◌, ◌≤◌, length};
-ghost use Rattle.number_format.specs.{Formatters.{style_sizes, currency_sign, with_separators, has_percent_pattern, IsWithoutCurrency, IsNumberPattern, IsMoney, IsStyle, IsNotationBy, digits_by, AreShownDigits}, NumberText.compact_style, NumberStyles.{before, plain_pattern, percent_text, percent_kind, is_own, money_pattern}};
+ghost use Rattle.std.specs.Prelude.{◌≡◌, ◌≤◌, ℕ, List, Some, length};
+ghost use Rattle.number_format.specs.{Formatters.{style_sizes, system_text, currency_sign, with_separators, has_percent_pattern, IsWithoutCurrency, IsNumberPattern, IsMoney, IsStyle, IsNotationBy, digits_by, AreShownDigits}, NumberText.compact_style, NumberStyles.{before, plain_pattern, percent_text, percent_kind, is_own, money_pattern}};
 
 use crate::digits::options::DigitOptions;
 use crate::format::currency::ShownCurrency;
@@ -14,8 +14,8 @@ use crate::options::{
 use decimal_format::{DecimalSymbols, GroupingSizes, GroupingStrategy};
 use fixed_decimal::SignDisplay;
 use locale_data::{
-    Affix, AffixPair, CurrencyDigits, CurrencyPattern, CurrencySign, LocalCurrency, NumberFormats,
-    NumberSigns, Pattern, Piece, UNLISTED_DIGITS, currency_pattern,
+    Affix, AffixPair, CurrencyDigits, CurrencyPattern, CurrencySign, LocalCurrency, LocaleId,
+    NumberFormats, NumberSigns, Pattern, Piece, UNLISTED_DIGITS, currency_pattern,
 };
 
 const NO_PIECES: Affix = Affix {
@@ -159,20 +159,21 @@ fn money_pattern(
 
 #[inline(always)]
 fn money(
-    system: &str,
+    symbols: LocaleId,
     sizes: GroupingSizes,
     formats: &NumberFormats,
     currency: Option<LocalCurrency>,
-    display: SignDisplay,
+    options: &NumberOptions,
     style: &CurrencyStyle,
 ) -> (CurrencyPattern, ShownCurrency)
-    ensures { IsMoney system.now sizes formats.now currency display style.now result.0 result.1 }
+    ensures { (system : List ℕ) → system_text symbols options.now.numbering_system ≡ Some system
+        → IsMoney system sizes formats.now currency options.now.sign_display style.now result.0 result.1 }
 {
-    let sign = currency_sign(display, style.sign);
+    let sign = currency_sign(options.sign_display, style.sign);
     let written = currency_pattern(formats, currency, sign);
     (
         money_pattern(style.display, sizes, written),
-        ShownCurrency::of(currency, style).in_system(system),
+        ShownCurrency::of(currency, style).in_system(symbols, &options.numbering_system),
     )
 }
 
@@ -204,20 +205,20 @@ fn number_pattern(
 
 #[inline(always)]
 pub(crate) fn style_of(
-    system: &str,
+    symbols: LocaleId,
     sizes: GroupingSizes,
     formats: &NumberFormats,
     currency: Option<LocalCurrency>,
     texts: &OuterTexts,
     options: &NumberOptions,
 ) -> (CurrencyPattern, ShownCurrency)
-    ensures { IsStyle options.now.style options.now.notation texts.now system.now sizes formats.now currency
+    ensures { (system : List ℕ) → system_text symbols options.now.numbering_system ≡ Some system
+        → IsStyle options.now.style options.now.notation texts.now system sizes formats.now currency
         options.now.sign_display result.0 result.1 }
 {
     match options.style {
         NumberStyle::Currency(style) => {
-            let display = options.sign_display;
-            money(system, sizes, formats, currency, display, &style)
+            money(symbols, sizes, formats, currency, options, &style)
         }
         style => {
             let is_percent = has_percent_pattern(options.notation, style, texts);

@@ -1,14 +1,17 @@
 //! A range of two numbers as a locale writes it.
-ghost use Rattle.std.specs.{Prelude.{◌≡◌, Some, OnOk, OnErr, true}, Fmt.WritesStyledOnOk};
-ghost use Rattle.number_format.specs.{declared.range.form.RangeForm.RangeForm, FormattedNumbers.around_of, FormattedRanges.{AreApproximate, bare_pieces, formatted_range_pieces, formatted_range_text, inner_range_pieces, segment_pieces, segment_text, segments_text, source_of, text_from_middle, IsRangeAround}, NumberText.AreParts, TextParts.{Puts, PutsPrefix, pieces_text}};
+ghost use Rattle.std.specs.{Prelude.{◌≡◌, ◌++◌, Some, OnOk, OnErr, true}, Io.KnownBytes.Appends};
+ghost use Rattle.decimal_digits.specs.AppendsPrefix.{AppendsPrefix};
+ghost use Rattle.number_format.specs.{declared.range.{form.RangeForm.RangeForm, formatted_range.RangeSegment.RangeSegment}, FormattedNumbers.around_of, FormattedRanges.{AreApproximate, formatted_range_pieces, formatted_range_text, inner_range_pieces, numbers_text, segment_text, source_of, IsRangeAround}, NumberText.AreParts, TextParts.{Puts, PutsPrefix, pieces_text}, TextSpans.{inner_spans_pieces, spans_pieces, spans_text}};
 
 use crate::format::affixes::NumberAffixes;
 use crate::format::formatted_number::FormattedNumber;
-use crate::format::parts::PartSink;
+use crate::format::number_spans::{InnerSpans, NO_NUMBER, NO_SPANS};
+use crate::format::parts::{PartSink, push_parts};
+use crate::format::text_span::{NO_SPAN, TextSpan};
 use crate::range::affixes::{NO_AFFIXES, WideAffixes};
 use crate::range::around::{RangeAround, separator_parts};
 use crate::range::form::RangeForm;
-use crate::range::segment::{Segment, Segments};
+use decimal_format::internal::Block;
 use fixed_decimal::{Sink, SinkFault, Writeable};
 use locale_data::RangeFormat;
 use std::fmt;
@@ -115,111 +118,174 @@ impl<'f> FormattedRange<'f> {
         RangeAround {
             outer: self.start.outer_around(),
             start,
+            start_exponent: self.start.shown_exponent(),
             end: self.end_affixes(start),
+            end_exponent: self.end.shown_exponent(),
             approximate: self.approximate_affixes(),
             separator: separator_parts(self.format.separator, self.spaced),
         }
     }
 
-    /// Returns a segment without what is around the whole text.
-    fn inner_segment<'r>(
+    /// Returns the spans of a segment without what is around the whole text.
+    fn inner_spans<'r>(
         &'r self,
         around: &'r RangeAround<'r>,
         segment: RangeSegment,
-    ) -> Segment<'r, 'f>
+    ) -> InnerSpans<'r>
         requires { IsRangeAround self.now around.now }
-        ensures { bare_pieces result ≡ inner_range_pieces self.now segment }
+        ensures { inner_spans_pieces result ≡ inner_range_pieces self.now segment }
     {
-        let (start, end) = (&self.start, &self.end);
-        let (affixes, separator) = (&around.start, &around.separator);
+        let (affixes, separator) = (&around.start, &around.separator.parts);
+        let start = |shown| self.start.number_spans(shown, &around.start_exponent);
+        let end = |shown| self.end.number_spans(shown, &around.end_exponent);
         match self.form {
             RangeForm::Approximate => match segment {
                 RangeSegment::Middle => {
                     let affixes = &around.approximate;
-                    Segment::between(&affixes.prefix, start, affixes.has_number, &affixes.suffix)
+                    InnerSpans::between(&affixes.prefix, start(affixes.has_number), &affixes.suffix)
                 }
-                _ => Segment::between(&[], start, false, &[]),
+                _ => NO_SPANS,
             },
             RangeForm::Common => match segment {
-                RangeSegment::Prefix => Segment::between(&affixes.prefix, start, false, &[]),
-                RangeSegment::Start => Segment::between(&[], start, affixes.has_number, &[]),
+                RangeSegment::Prefix => InnerSpans::between(&affixes.prefix, NO_NUMBER, &[]),
+                RangeSegment::Start => InnerSpans::between(&[], start(affixes.has_number), &[]),
                 RangeSegment::Middle => {
-                    Segment::between(separator, start, false, &[]).if_shown(affixes.has_number)
+                    InnerSpans::between(separator, NO_NUMBER, &[]).if_shown(affixes.has_number)
                 }
-                RangeSegment::End => Segment::between(&[], end, affixes.has_number, &[]),
-                RangeSegment::Suffix => Segment::between(&[], start, false, &affixes.suffix),
+                RangeSegment::End => InnerSpans::between(&[], end(affixes.has_number), &[]),
+                RangeSegment::Suffix => InnerSpans::between(&[], NO_NUMBER, &affixes.suffix),
             },
             RangeForm::Apart => match segment {
                 RangeSegment::Start => {
-                    Segment::between(&affixes.prefix, start, affixes.has_number, &affixes.suffix)
+                    InnerSpans::between(&affixes.prefix, start(affixes.has_number), &affixes.suffix)
                 }
-                RangeSegment::Middle => Segment::between(separator, start, false, &[]),
+                RangeSegment::Middle => InnerSpans::between(separator, NO_NUMBER, &[]),
                 RangeSegment::End => {
                     let affixes = &around.end;
-                    Segment::between(&affixes.prefix, end, affixes.has_number, &affixes.suffix)
+                    InnerSpans::between(&affixes.prefix, end(affixes.has_number), &affixes.suffix)
                 }
-                _ => Segment::between(&[], start, false, &[]),
+                _ => NO_SPANS,
             },
         }
     }
 
-    fn segment<'r>(&'r self, around: &'r RangeAround<'r>, segment: RangeSegment) -> Segment<'r, 'f>
+    /// Returns the spans of a segment.
+    fn spans<'r>(&'r self, around: &'r RangeAround<'r>, segment: RangeSegment) -> [TextSpan<'r>; 9]
         requires { IsRangeAround self.now around.now }
-        ensures pieces { segment_pieces result ≡ formatted_range_pieces self.now segment }
-        ensures text { segment_text result ≡ pieces_text (formatted_range_pieces self.now segment) }
+        ensures pieces { spans_pieces result ≡ formatted_range_pieces self.now segment }
+        ensures text { spans_text result ≡ segment_text self.now segment }
     {
         let outer = &around.outer;
-        let inner = self.inner_segment(around, segment);
+        let inner = self.inner_spans(around, segment);
         match segment {
-            RangeSegment::Prefix => inner.with_outer(outer.kind, &outer.before),
+            RangeSegment::Prefix => {
+                let before = TextSpan::joined(outer.kind, &outer.before);
+                inner.within(NO_SPAN, before)
+            }
             RangeSegment::Suffix => {
-                let suffix = inner.if_shown(outer.has_number);
-                suffix.with_outer(outer.kind, &outer.after)
+                let after = TextSpan::joined(outer.kind, &outer.after);
+                inner.if_shown(outer.has_number).within(NO_SPAN, after)
             }
-            _ => {
-                let number = inner.if_shown(outer.has_number);
-                number.with_outer(outer.kind, &[])
-            }
+            _ => inner.if_shown(outer.has_number).within(NO_SPAN, NO_SPAN),
         }
     }
 
-    fn segments<'r>(&'r self, around: &'r RangeAround<'r>) -> Segments<'r, 'f>
-        requires { IsRangeAround self.now around.now }
-        ensures { segments_text result ≡ formatted_range_text self.now }
+    fn put_prefix(&self, block: &mut Block) -> Result<(), SinkFault>
+        ensures { OnOk result
+            (block.new.0 ≡ block.old.0 ++ pieces_text (inner_range_pieces self.now RangeSegment.Prefix)) }
     {
-        Segments {
-            prefix: self.segment(around, RangeSegment::Prefix),
-            start: self.segment(around, RangeSegment::Start),
-            middle: self.segment(around, RangeSegment::Middle),
-            end: self.segment(around, RangeSegment::End),
-            suffix: self.segment(around, RangeSegment::Suffix),
+        match self.form {
+            RangeForm::Common => self.start.put_prefix(block),
+            _ => Ok(()),
         }
     }
 
-    fn fmt_segment<W: fmt::Write>(
-        &self,
-        around: &RangeAround<'_>,
-        segment: RangeSegment,
-        f: &mut fmt::Formatter<W>,
-    ) -> fmt::Result
-        requires { IsRangeAround self.now around.now }
-        ensures { WritesStyledOnOk W.write_str_gives f.old result
-            (pieces_text (formatted_range_pieces self.now segment)) f.new }
+    /// Appends two numbers without affixes, and the separator between them.
+    fn put_common_numbers(&self, block: &mut Block) -> Result<(), SinkFault>
+        requires { self.now.form ≡ RangeForm.Common }
+        ensures { OnOk result (block.new.0 ≡ block.old.0 ++ numbers_text self.now) }
     {
-        self.segment(around, segment).fmt(f)
+        if !self.start.has_number() {
+            return Err(SinkFault);
+        }
+        let separator = separator_parts(self.format.separator, self.spaced);
+        self.start.put_digits(block)?;
+        push_parts(&separator.parts, block)?;
+        self.end.put_digits(block)
     }
 
-    fn fmt_from_middle<W: fmt::Write>(
-        &self,
-        around: &RangeAround<'_>,
-        f: &mut fmt::Formatter<W>,
-    ) -> fmt::Result
-        requires { IsRangeAround self.now around.now }
-        ensures { WritesStyledOnOk W.write_str_gives f.old result (text_from_middle self.now) f.new }
+    /// Appends two numbers with their own affixes, and the separator between them.
+    fn put_numbers_apart(&self, block: &mut Block) -> Result<(), SinkFault>
+        requires { self.now.form ≡ RangeForm.Apart }
+        ensures { OnOk result (block.new.0 ≡ block.old.0 ++ numbers_text self.now) }
     {
-        self.fmt_segment(around, RangeSegment::Middle, f)?;
-        self.fmt_segment(around, RangeSegment::End, f)?;
-        self.fmt_segment(around, RangeSegment::Suffix, f)
+        let separator = separator_parts(self.format.separator, self.spaced);
+        self.start.put_around(block)?;
+        push_parts(&separator.parts, block)?;
+        self.end.put_around(block)
+    }
+
+    /// Appends what is between the prefix and the suffix, but not that of an approximate number.
+    fn put_numbers(&self, block: &mut Block) -> Result<(), SinkFault>
+        ensures { OnOk result (block.new.0 ≡ block.old.0 ++ numbers_text self.now) }
+    {
+        match self.form {
+            RangeForm::Approximate => Err(SinkFault),
+            RangeForm::Common => self.put_common_numbers(block),
+            RangeForm::Apart => self.put_numbers_apart(block),
+        }
+    }
+
+    fn put_suffix(&self, block: &mut Block) -> Result<(), SinkFault>
+        ensures { OnOk result
+            (block.new.0 ≡ block.old.0 ++ pieces_text (inner_range_pieces self.now RangeSegment.Suffix)) }
+    {
+        match self.form {
+            RangeForm::Common => self.start.put_suffix(block),
+            _ => Ok(()),
+        }
+    }
+
+    fn put_with_outer(&self, block: &mut Block) -> Result<(), SinkFault>
+        ensures { OnOk result (block.new.0 ≡ block.old.0 ++ formatted_range_text self.now) }
+    {
+        let outer = self.start.outer_around();
+        if !outer.has_number {
+            return Err(SinkFault);
+        }
+        self.put_prefix(block)?;
+        push_parts(&outer.before, block)?;
+        self.put_numbers(block)?;
+        self.put_suffix(block)?;
+        push_parts(&outer.after, block)
+    }
+
+    /// Appends the text, if it is short and not approximate.
+    fn put_text(&self, block: &mut Block) -> Result<(), SinkFault>
+        ensures { OnOk result (block.new.0 ≡ block.old.0 ++ formatted_range_text self.now) }
+    {
+        if self.start.has_outer() {
+            return self.put_with_outer(block);
+        }
+        self.put_prefix(block)?;
+        self.put_numbers(block)?;
+        self.put_suffix(block)
+    }
+
+    #[inline(never)]
+    fn write_spans<W: Sink>(&self, sink: &mut W) -> Result<(), SinkFault>
+        ensures ok { OnOk result
+            (Appends (W.contents sink.old) (W.contents sink.new) (formatted_range_text self.now)) }
+        ensures err { OnErr result
+            (AppendsPrefix (W.contents sink.old) (W.contents sink.new) (formatted_range_text self.now)) }
+        ensures failed { OnErr result (W.has_failed sink.new ≡ true) }
+    {
+        let around = self.around();
+        // `(*self)` lends the range for each segment anew.
+        for segment in RangeSegment::ALL {
+            TextSpan::write_all(&(*self).spans(&around, segment), sink)?;
+        }
+        Ok(())
     }
 
     /// Puts the pieces of a segment of the text with their kinds into a sink, which is any [`PartSink`]. It does not
@@ -248,7 +314,7 @@ impl<'f> FormattedRange<'f> {
         ensures failed { OnErr result (P.has_failed sink.new ≡ true) }
     {
         let around = self.around();
-        self.segment(&around, segment).put(sink)
+        TextSpan::put_all(&self.spans(&around, segment), sink)
     }
 }
 
@@ -264,24 +330,21 @@ impl<'f> Writeable for FormattedRange<'f> {
         if sink.failed() {
             return Err(SinkFault);
         }
-        let around = self.around();
-        let segments = self.segments(&around);
-        segments.prefix.write(sink)?;
-        segments.start.write(sink)?;
-        segments.middle.write(sink)?;
-        segments.end.write(sink)?;
-        segments.suffix.write(sink)
+        let mut block = Block::new();
+        match self.put_text(&mut block) {
+            Ok(()) => sink.put_bytes(block.as_bytes()),
+            Err(SinkFault) => self.write_spans(sink),
+        }
     }
 
     /// Returns the exact number of bytes of the text.
     fn writeable_length_hint(&self) -> usize {
         let around = self.around();
-        let segments = self.segments(&around);
-        segments.prefix.length()
-            + segments.start.length()
-            + segments.middle.length()
-            + segments.end.length()
-            + segments.suffix.length()
+        let mut total = 0;
+        for segment in RangeSegment::ALL {
+            total += TextSpan::length_of_all(&(*self).spans(&around, segment));
+        }
+        total
     }
 }
 
@@ -297,8 +360,9 @@ impl<'f> fmt::Display for FormattedRange<'f> {
     /// The formatter fails.
     fn fmt<W: fmt::Write>(&self, f: &mut fmt::Formatter<W>) -> fmt::Result {
         let around = self.around();
-        self.fmt_segment(&around, RangeSegment::Prefix, f)?;
-        self.fmt_segment(&around, RangeSegment::Start, f)?;
-        self.fmt_from_middle(&around, f)
+        for segment in RangeSegment::ALL {
+            TextSpan::fmt_all(&(*self).spans(&around, segment), f)?;
+        }
+        Ok(())
     }
 }

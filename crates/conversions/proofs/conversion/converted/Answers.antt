@@ -1,15 +1,14 @@
-use Rattle.std.proofs.Common.{Ok, refl}
+use Rattle.std.proofs.Common.{Ok}
 use Rattle.conversions.proofs.lemmas.conversion.Conversions.{reading_fails, calls_fail}
 use Rattle.conversions.proofs.conversion.converted.Goals as goal
 
 pub returns-in-Err-clause-fails_with : goal.returns-in-Err-clause-fails_with
 returns-in-Err-clause-fails_with c =
-    rw c.from.ensures
-    (reading_fails c.args.reader.now c.args.calls.now c.args.text.now c.in-Err.error c.in-Err.ensures.fails_with)
+    reading_fails c.args.reader.now c.args.calls.now c.args.text.now c.in-Err.error c.in-Err.ensures.fails_with
 
 pub returns-in-Err-apply_calls-clause-fails_with : goal.returns-in-Err-apply_calls-clause-fails_with
 returns-in-Err-apply_calls-clause-fails_with c =
-    rw (c.from-in-Err-apply_calls-2.ensures, c.from-in-Err-apply_calls.ensures)
+    rw c.from.ensures
     (calls_fail c.args.reader.now c.args.calls.now c.args.text.now c.in-Ok.value c.in-Ok.ensures.found
     c.in-Err-apply_calls.error c.in-Err-apply_calls.ensures.fails_with)
 

@@ -1,7 +1,5 @@
-use Rattle.fixed_decimal_c.proofs.lemmas.convert.Runs.{conversion_is_run}
+use Rattle.std.proofs.Common.{arith}
 use Rattle.fixed_decimal_c.proofs.convert.run.Goals as goal
 
-pub returns : goal.returns
-returns c =
-    conversion_is_run c.convert_own_decoded.result c.args.start.now c.args.calls.now c.args.texts.now c.args.buffer.now
-    c.convert_own_decoded.new.buffer c.convert_own_decoded.ensures
+pub slice_bounds-calls_in-end : goal.slice_bounds-calls_in-end
+slice_bounds-calls_in-end c = omega (arith, c.decode_calls-decoded.ensures.room)

@@ -2,12 +2,10 @@
 use Rattle.std.proofs.{Common.{◌≡◌, ◌≢◌, ℕ, zero, suc, ◌+◌, ◌-◌, ◌<◌, ◌≤◌, Bool, true, false, List, [], ◌∷◌, ◌++◌, length, take, drop, slice_index, Some, None, ◌⊎◌, inl, inr, set, Result, Ok, Err, refl, sym, ap, ◌∙◌, arith, add-one, eq-eqb, ne_eqb, le_of_suc-le-suc, suc-le-suc, zero-lt-suc, eqb-true, append_assoc, length-append, subst}, Math.{Seq.{take-append_seam, drop-append_seam}, ListN.drop_of_length-le}, lemmas.{List.{flat_map_more, length-take, length-drop, drop-drop, take_all, append-nil, take-append-drop}, Bool.cond-false, Grind.common_steps}}
 use Rattle.std.specs.{Prelude.{flat_map, count_by, is_err, IfOk, IfErr, OnOk, OnErr}, List.onto_first}
 use Rattle.memchr.specs.Find.{IsFirstByte, is_byte}
-use Rattle.fixed_decimal.specs.{declared.runs.Call.Call, Decimal.Decimal}
+use Rattle.fixed_decimal.specs.declared.runs.{Call.Call, RunError.RunError}
 use Rattle.conversions.specs.Lines.{lines_of}
-use Rattle.decimal_unsigned.specs.declared.error.ParseError.TheVariants as parse
-use Rattle.fixed_decimal.specs.declared.runs.CallError.TheVariants as call
 use Rattle.fixed_decimal_c.proofs.lemmas.texts.Writing.{writes_ok, writes_err, written_in_part, line_ended}
-use Rattle.fixed_decimal_c.specs.{declared.{convert.Forms.Forms, forms.Format.{Format, TheVariants.{Own, Symbols, Skeleton}}, error.FdError.{FdError, TheVariants.{BufferTooSmall, Memory}}, lines.LineOutput.LineOutput, answer.Progress.Progress}, Conversions.{IsConverted, Converts, ConversionFails}, Errors.is_of_line, Formats.FormatFails, Texts.{IsWritten, Writes}, Lines.{IsLineResult, AreLineResults, LineStops, output_of_line, IsLineWritten, AreConverted, ConvertsLines, none}}
+use Rattle.fixed_decimal_c.specs.{declared.{convert.Forms.Forms, error.FdError.{FdError, TheVariants.{BufferTooSmall, Memory}}, lines.LineOutput.LineOutput, answer.Progress.Progress}, Conversions.{IsConverted, Converts, ConversionFails}, Errors.{error_of_run, is_of_line}, Texts.{IsWritten, Writes}, Lines.{IsLineResult, AreLineResults, LineStops, output_of_line, IsLineWritten, AreConverted, ConvertsLines, none}}
 
 -- ---- The first line.
 
@@ -46,26 +44,14 @@ line_not_found xs some nowhere =
 
 -- ---- A line that fails.
 
-format_never_too_small : (format : Format) (v : Decimal) (at needed : ℕ)
-    → FormatFails format v at (BufferTooSmall needed) → ⊥
-format_never_too_small Own v at needed h = h
-format_never_too_small (Symbols f) v at needed h = h
-format_never_too_small (Skeleton f) v at needed h = h
+run_never_too_small : (e : RunError) (needed : ℕ) → BufferTooSmall needed ≡ error_of_run e → ⊥
+run_never_too_small e needed is = grind arith
 
 -- a conversion does not fail with the error of a text that is too long
 never_too_small : (f : Forms) (calls : List Call) (text : List ℕ) (needed : ℕ)
     → ConversionFails f calls text (BufferTooSmall needed) → ⊥
-never_too_small f calls text needed (inl (parse.Syntax, is, _)) = cc
-never_too_small f calls text needed (inl (parse.Limit, is, _)) = cc
-never_too_small f calls text needed (inl (parse.Memory, is, _)) = cc
-never_too_small f calls text needed (inr (v, _, inl (call.Operand at parse.Syntax, is, _))) = cc
-never_too_small f calls text needed (inr (v, _, inl (call.Operand at parse.Limit, is, _))) = cc
-never_too_small f calls text needed (inr (v, _, inl (call.Operand at parse.Memory, is, _))) = cc
-never_too_small f calls text needed (inr (v, _, inl (call.Overlap at, is, _))) = cc
-never_too_small f calls text needed (inr (v, _, inl (call.Limit at, is, _))) = cc
-never_too_small f calls text needed (inr (v, _, inl (call.Memory at, is, _))) = cc
-never_too_small f calls text needed (inr (v, _, inr (w, _, fails))) =
-    format_never_too_small f.format w (length calls) needed fails
+never_too_small f calls text needed (inl (e, is, _)) = run_never_too_small e needed is
+never_too_small f calls text needed (inr (_, _, fails)) = fails
 
 -- the text of a line goes to the first r bytes of the buffer, which leaves one byte for the line feed
 module _

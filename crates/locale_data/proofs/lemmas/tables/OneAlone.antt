@@ -4,7 +4,7 @@ use Rattle.std.specs.{Prelude.{find, nat_le, if◌then◌else◌, ◌↔◌, IsT
 use Rattle.decimal_digits.specs.Number.{greatest, last, offset, weight}
 use Rattle.decimal_unsigned.specs.{Unsigned.{Unsigned, IsValue}, Edits.trimmed_end}
 use Rattle.fixed_decimal.proofs.Calling.{gap_is, offset_is}
-use Rattle.plural_rules.specs.{declared.rules.{Operand.{Operand, TheVariants.{N, I, V, W, F, T, C}}, PluralCategory.TheVariants.{One, Other}, Range.Range}, Operands.plain, Rules.{RelationValue, RuleValue, category_of, holds, is_met, operand_value, is_integer}, RulesGrammar.Grammar}
+use Rattle.plural_rules.specs.{declared.rules.{Operand.{Operand, TheVariants.{N, I, V}}, PluralCategory.TheVariants.{One, Other}, Range.Range}, Operands.plain, Rules.{RelationValue, RuleValue, category_of, holds, is_met, operand_value, is_integer}, RulesGrammar.Grammar}
 use Rattle.plural_rules.specs.Operands as of
 use Rattle.plural_rules.proofs.lemmas.parse.ParserComplete.{grammar-unique}
 use Rattle.locale_data.specs.{declared.{tables.rows.plurals.RuleSet.RuleSet, plurals.PluralRulesId.PluralRulesId}, Plurals.{ask_for_one, asks_for_one, is_equation, is_just, is_one, operand_is, set_at, text_of, rules_text_at, HasOneAlone, IsCategoryAt}, PluralRows.rules_in}
@@ -43,32 +43,11 @@ AloneBy text = (rules : List RuleValue) × Grammar text rules × (list_all asks_
 
 -- ---- Relations.
 
-same_n : (o : Operand) → operand_is N o ≡ true → o ≡ N
-same_n N is = refl
-same_n I is = absurd (cc)
-same_n V is = absurd (cc)
-same_n W is = absurd (cc)
-same_n F is = absurd (cc)
-same_n T is = absurd (cc)
-same_n C is = absurd (cc)
-
-same_i : (o : Operand) → operand_is I o ≡ true → o ≡ I
-same_i I is = refl
-same_i N is = absurd (cc)
-same_i V is = absurd (cc)
-same_i W is = absurd (cc)
-same_i F is = absurd (cc)
-same_i T is = absurd (cc)
-same_i C is = absurd (cc)
-
-same_v : (o : Operand) → operand_is V o ≡ true → o ≡ V
-same_v V is = refl
-same_v N is = absurd (cc)
-same_v I is = absurd (cc)
-same_v W is = absurd (cc)
-same_v F is = absurd (cc)
-same_v T is = absurd (cc)
-same_v C is = absurd (cc)
+same_operand : (wanted o : Operand) → operand_is wanted o ≡ true → o ≡ wanted
+same_operand N N is = refl
+same_operand I I is = refl
+same_operand V V is = refl
+same_operand wanted o is = absurd (cc)
 
 just : (n low high k : ℕ) → (low == n && high == n) ≡ true → ((nat_le low k && nat_le k high) || false) ≡ true → k ≡ n
 just n low high k ends is = grind (arith, nat_tests)
@@ -76,7 +55,7 @@ just n low high k ends is = grind (arith, nat_tests)
 module _ (v : Unsigned) (valid : IsValue v) where
   -- ---- The operand of an equation that holds.
 
-  module _ (wanted : Operand) (n : ℕ) (same : (o : Operand) → operand_is wanted o ≡ true → o ≡ wanted) where
+  module _ (wanted : Operand) (n : ℕ) where
     abbrev IsValueOf : Type 0
     IsValueOf = (is_integer (plain v) wanted ≡ true) × (operand_value (plain v) wanted ≡ n)
 
@@ -99,7 +78,7 @@ module _ (v : Unsigned) (valid : IsValue v) where
         let a = and_parts _ _ is in
         let b = and_parts _ _ a.1 in
         let c = and_parts _ _ b.1 in
-        by_parts r.operand r.modulus r.is_equal r.ranges (same r.operand a.0) b.0 c.0 c.1 all
+        by_parts r.operand r.modulus r.is_equal r.ranges (same_operand wanted r.operand a.0) b.0 c.0 c.1 all
 
     value_in : (relations : List RelationValue) → list_any (is_equation wanted n) relations ≡ true
         → list_all (holds (plain v)) relations ≡ true → IsValueOf
@@ -135,13 +114,13 @@ module _ (v : Unsigned) (valid : IsValue v) where
       go : (b : Bool) → list_any (is_equation N 1) relations ≡ b
           → (b || (list_any (is_equation I 1) relations && list_any (is_equation V 0) relations)) ≡ true → IsUnit
       go true any ask =
-          let n = value_in N 1 same_n relations any all in
+          let n = value_in N 1 relations any all in
           let w : of.w v ≡ 0 = grind (arith, nat_tests, n.0) in
           unit n.1 w
       go false any ask =
           let both = and_parts _ _ ask in
-          unit (value_in I 1 same_i relations both.0 all).1
-          (no_fraction (value_in V 0 same_v relations both.1 all).1)
+          unit (value_in I 1 relations both.0 all).1
+          (no_fraction (value_in V 0 relations both.1 all).1)
 
   met : (alternatives : List (List RelationValue)) → list_any (list_all (holds (plain v))) alternatives ≡ true
       → list_all ask_for_one alternatives ≡ true → IsUnit

@@ -1,14 +1,14 @@
-use Rattle.std.proofs.{Common.{refl, arith}, lemmas.Grind.common_steps}
+use Rattle.std.proofs.{Common.{◌≡◌, ◌∙◌, Bool, sym, rules, tests}, lemmas.{Iterator.{YieldsList-from_slice, Search.all_from_yields_List}, List.Folds.list_all-map}}
+use Rattle.std.specs.List.{list_all}
+use Rattle.locale_data.specs.{declared.tables.{plurals.TheConstants.PLURAL_ALTERNATIVES, rows.TableRange.TableRange}, PluralRows.relations_in, Plurals.ask_for_one, Rows.part}
 use Rattle.locale_data.proofs.plural_rows.all_ask_for_one.Goals as goal
 
-pub loop-relations-init : goal.loop-relations-init
-loop-relations-init c = rw c.part-rows.ensures refl
-
-pub returns-then-not-ask_for_one : goal.returns-then-not-ask_for_one
-returns-then-not-ask_for_one c = grind (arith, common_steps)
-
-pub loop-relations-preserved : goal.loop-relations-preserved
-loop-relations-preserved c = grind (arith, common_steps)
-
 pub returns : goal.returns
-returns c = grind (arith, common_steps)
+returns c =
+    let rows = c.part.result.now in
+    let test : TableRange → Bool = λ row. ask_for_one (relations_in row) in
+    let all : c.all.result ≡ list_all test rows =
+    all_from_yields_List test _ _ c.all.result c.all.ensures.ran (YieldsList-from_slice rows cc)
+    (λ x b q k. search (rules, tests)) in
+    (rw c.part.ensures at all)
+    ∙ sym (list_all-map ask_for_one relations_in (part PLURAL_ALTERNATIVES c.args.alternatives))

@@ -6,7 +6,7 @@ use Rattle.fixed_decimal.specs.Decimal.{Decimal}
 use Rattle.decimal_format.specs.{declared.grouping.GroupingStrategy.{GroupingStrategy, TheVariants.Never}, Formatted.{separator_before, separator_after, formatted_down, absolute_text, shown_count}, Symbols.Symbols}
 use Rattle.decimal_format.proofs.lemmas.formatter.Magnitudes.{one_more}
 use Rattle.number_format.specs.declared.{digits.options.DigitOptions.DigitOptions, options.DecimalSeparatorDisplay.DecimalSeparatorDisplay}
-use Rattle.number_format.specs.{declared.format.{formatted_number.FormattedNumber.FormattedNumber, affixes.NumberAffixes.NumberAffixes, formatter.NumberFormatter.NumberFormatter, outer.OuterAround.OuterAround, text_part.{PartKind.PartKind, TextPart.TextPart}}, TextParts.{Piece, Puts, PutsPrefix, is_whole, part_pieces, parts_text, piece_of, pieces_text, pieces_of, pieces_to_end, parts_pieces, trimmed_pieces, digit_if, digit_kind, magnitude_pieces, first_pieces, digit_pieces}, TrimmedTexts.{trimmed_length, kept_length}, FormattedNumbers.{around_of, visible_text, outer_of, exponent_text, number_pieces, number_text, number_text_if, inner_pieces, inner_text, inner_text_if, formatted_number_text, IsOuter}, NumberText.{bare_separator, has_no_integer, hides_zero, is_always, is_significant_zero, needs_no_integer, exponent_kind, exponent_pieces, exponent_of, number_part, AreParts}, PatternTexts.{Around, around, within, sign_text}}
+use Rattle.number_format.specs.{declared.format.{formatted_number.FormattedNumber.FormattedNumber, affixes.NumberAffixes.NumberAffixes, formatter.NumberFormatter.NumberFormatter, outer.OuterAround.OuterAround, text_part.{PartKind.PartKind, TextPart.TextPart}}, TextParts.{Piece, Puts, PutsPrefix, is_whole, part_pieces, part_text, parts_text, piece_of, pieces_text, pieces_of, pieces_to_end, parts_pieces, trimmed_pieces, digit_if, digit_kind, magnitude_pieces, first_pieces, digit_pieces}, TrimmedTexts.{trimmed_length, kept_length}, FormattedNumbers.{around_of, visible_text, outer_of, exponent_text, number_pieces, number_text, number_text_if, inner_pieces, inner_text, inner_text_if, formatted_number_text, IsOuter}, NumberText.{bare_separator, has_no_integer, hides_zero, is_always, is_significant_zero, needs_no_integer, exponent_kind, exponent_pieces, exponent_of, number_part, AreParts}, PatternTexts.{Around, around, within, sign_text}}
 use Rattle.number_format.specs.declared.format.text_part.PartKind.TheVariants as kind
 
 pub puts_nil : (a : List Piece → Type 0) → Puts a a []
@@ -42,28 +42,6 @@ module _ (xs ys zs : List Piece) where
   pub third_of_three : (a b c d : List Piece → Type 0) → Puts a b xs → Puts b c ys → PutsPrefix c d zs
       → PutsPrefix a d (xs ++ (ys ++ zs))
   third_of_three a b c d p q r = then_prefix a b d xs (ys ++ zs) p (then_prefix b c d ys zs q r)
-
--- one part more
-pub parts_pieces-more : (parts : List TextPart) (i : ℕ) (p : TextPart) → i < length parts → p ≡ get_or parts i p
-    → parts_pieces (take (i + 1) parts) ≡ parts_pieces (take i parts) ++ pieces_of p.kind p.text.now
-parts_pieces-more parts i p h e =
-    ap parts_pieces (take_more parts i p h)
-    ∙ flat_map-append part_pieces (take i parts) (get_or parts i p ∷ [])
-    ∙ ap (λ l. parts_pieces (take i parts) ++ l)
-    (flat_map-cons part_pieces (get_or parts i p) []
-    ∙ append-nil (part_pieces (get_or parts i p))
-    ∙ ap part_pieces (sym e))
-
--- one part between those before it and those after it
-pub parts_pieces-split : (parts : List TextPart) (i : ℕ) (p : TextPart) → i < length parts → p ≡ get_or parts i p
-    → parts_pieces (take i parts) ++ (pieces_of p.kind p.text.now ++ parts_pieces (drop (i + 1) parts))
-    ≡ parts_pieces parts
-parts_pieces-split parts i p h e =
-    let part = pieces_of p.kind p.text.now in
-    sym (append_assoc (parts_pieces (take i parts)) part (parts_pieces (drop (i + 1) parts)))
-    ∙ ap (λ l. l ++ parts_pieces (drop (i + 1) parts)) (sym (parts_pieces-more parts i p h e))
-    ∙ sym (flat_map-append part_pieces (take (i + 1) parts) (drop (i + 1) parts))
-    ∙ ap parts_pieces (take-append-drop (i + 1) parts)
 
 -- one magnitude more
 module _ (hidden : Bool) (kind : PartKind) (s : Symbols) (strategy : GroupingStrategy) (v : Unsigned) where
@@ -164,7 +142,7 @@ text-of_parts (p ∷ parts) =
     ap pieces_text (flat_map-cons part_pieces p parts)
     ∙ text-append (part_pieces p) (parts_pieces parts)
     ∙ (λ i. text-of p.kind p.text.now i ++ text-of_parts parts i)
-    ∙ sym (flat_map-cons (λ (part : TextPart). part.text.now) p parts)
+    ∙ sym (flat_map-cons part_text p parts)
 
 pub text-three : (a b c : List Piece) (x y z : List ℕ) → pieces_text a ≡ x → pieces_text b ≡ y → pieces_text c ≡ z
     → pieces_text (a ++ (b ++ c)) ≡ x ++ (y ++ z)
@@ -197,11 +175,23 @@ pub text-of_digits : (k : PartKind) (s : Symbols) (strategy : GroupingStrategy) 
     → pieces_text (digit_pieces false k s strategy v) ≡ absolute_text s strategy v
 text-of_digits k s strategy v = text-of_first k s strategy v (shown_count v)
 
+-- without the hidden integer digits the text is the same by each kind
+text-of_hidden : (j k : PartKind) (s : Symbols) (strategy : GroupingStrategy) (v : Unsigned) (n : ℕ)
+    → pieces_text (first_pieces true j s strategy v n) ≡ pieces_text (first_pieces true k s strategy v n)
+unfolding first_pieces
+text-of_hidden j k s strategy v zero = refl
+text-of_hidden j k s strategy v (suc n) =
+    let m = v.hi -ℤ pos n in
+    text-append (first_pieces true j s strategy v n) (magnitude_pieces true j s strategy v m)
+    ∙ (λ i. text-of_hidden j k s strategy v n i
+    ++ (text-of_magnitude true j s strategy v m ∙ sym (text-of_magnitude true k s strategy v m)) i)
+    ∙ sym (text-append (first_pieces true k s strategy v n) (magnitude_pieces true k s strategy v m))
+
 -- of which integer digits may be hidden
-text-of_shown : (hidden : Bool) (s : Symbols) (strategy : GroupingStrategy) (v : Unsigned)
-    → pieces_text (digit_pieces hidden kind.Integer s strategy v) ≡ visible_text hidden s strategy v
-text-of_shown false s strategy v = text-of_digits kind.Integer s strategy v
-text-of_shown true s strategy v = refl
+pub text-of_shown : (hidden : Bool) (k : PartKind) (s : Symbols) (strategy : GroupingStrategy) (v : Unsigned)
+    → pieces_text (digit_pieces hidden k s strategy v) ≡ visible_text hidden s strategy v
+text-of_shown false k s strategy v = text-of_digits k s strategy v
+text-of_shown true k s strategy v = text-of_hidden k kind.Integer s strategy v (shown_count v)
 
 -- an integer digit is shown of each number
 pub shows_integer : (digits : Option DigitOptions) (display : DecimalSeparatorDisplay) (v : Unsigned)
@@ -231,7 +221,7 @@ text-of_digits_and_exponent f v e =
     let separator = pieces_of kind.Decimal bare in
     text-append (digits ++ separator) (exponent_pieces f e)
     ∙ (λ i. (text-append digits separator
-    ∙ (λ j. text-of_shown hidden f.style.symbols f.options.grouping v j ++ text-of kind.Decimal bare j)) i
+    ∙ (λ j. text-of_shown hidden kind.Integer f.style.symbols f.options.grouping v j ++ text-of kind.Decimal bare j)) i
     ++ text-of_exponent f e i)
 
 pub text-of_number : (n : FormattedNumber)
@@ -257,14 +247,6 @@ text-of_within a ps text e =
 
 pub text-of_inner : (n : FormattedNumber) → pieces_text (inner_pieces n) ≡ inner_text n
 text-of_inner n = text-of_within (around_of n) (number_pieces n) (number_text n) (text-of_number n)
-
--- the number between the texts of the parts before and after it
-pub text-of_affixes : (n : FormattedNumber) (shown : NumberAffixes) → AreParts (around_of n) shown
-    → parts_text shown.prefix ++ (number_text_if n shown.has_number ++ parts_text shown.suffix) ≡ inner_text n
-text-of_affixes n shown is =
-    let before = sym (text-of_parts shown.prefix) ∙ ap pieces_text is.prefix in
-    let after = sym (text-of_parts shown.suffix) ∙ ap pieces_text is.suffix in
-    (λ i. before i ++ (number_text_if n (is.has_number i) ++ after i))
 
 -- that between the texts around it is the whole text
 pub text-of_outer : (n : FormattedNumber) (shown : OuterAround) → IsOuter (outer_of n) shown

@@ -1,16 +1,92 @@
--- The texts of segments of ranges.
-use Rattle.std.proofs.Common.{◌≡◌, ◌++◌, ◌∙◌}
-use Rattle.number_format.specs.{declared.range.segment.Segment.Segment, FormattedNumbers.{number_pieces, number_pieces_if, number_text, number_text_if}, FormattedRanges.{segment_pieces, segment_text}, TextParts.{parts_pieces, parts_text, pieces_of, pieces_text}}
-use Rattle.number_format.proofs.lemmas.format.PieceTexts.{text-append, text-if, text-of, text-of_number, text-of_parts, text-three}
+-- The text of the segments of a range.
+use Rattle.std.proofs.{Common.{◌≡◌, ℕ, ◌+◌, ◌<◌, List, [], ◌∷◌, ◌++◌, length, get_or, take, drop, refl, sym, ◌∙◌, ap, append_assoc, append-nil}, lemmas.List.{get_or_default, Concat.flat_map-cons}}
+use Rattle.std.specs.Prelude.{true, flat_map}
+use Rattle.number_format.specs.{declared.range.{form.RangeForm.TheVariants.{Apart, Common}, formatted_range.{FormattedRange.FormattedRange, RangeSegment.{RangeSegment, TheVariants.{Prefix, Start, Middle, End, Suffix}}}}, FormattedNumbers.{around_of, inner_text, number_text, outer_of}, FormattedRanges.{formatted_range_text, inner_range_pieces, numbers_text, segment_text, shown_range}, PatternTexts.{Around, around}, RangeText.{RangePieces, end_number, inner_pieces, pieces_if, separator_pieces, text_of_pieces, with_outer}, TextParts.pieces_text}
+use Rattle.number_format.proofs.lemmas.format.{FlatMaps.{flat_map-more, flat_map-split}, PieceTexts.{text-append, text-of_inner, text-of_number}}
 
--- the text of the pieces of a segment
-pub text-of_segment : (s : Segment) → pieces_text (segment_pieces s) ≡ segment_text s
-text-of_segment s =
-    let n = s.number.now in
-    let suffix = s.suffix.now in
-    let outer = parts_text s.outer.now in
-    let outer_pieces = pieces_of s.kind outer in
-    text-three (parts_pieces s.prefix.now) (number_pieces_if n s.has_number) (parts_pieces suffix ++ outer_pieces)
-    (parts_text s.prefix.now) (number_text_if n s.has_number) (parts_text suffix ++ outer)
-    (text-of_parts s.prefix.now) (text-if s.has_number (number_pieces n) (number_text n) (text-of_number n))
-    (text-append (parts_pieces suffix) outer_pieces ∙ (λ i. text-of_parts suffix i ++ text-of s.kind outer i))
+abbrev segments : List RangeSegment
+segments = Prefix ∷ (Start ∷ (Middle ∷ (End ∷ (Suffix ∷ []))))
+
+module _ (t : FormattedRange) where
+  pub text-of_segments : flat_map (segment_text t) segments ≡ formatted_range_text t
+  text-of_segments =
+      let text = segment_text t in
+      flat_map-cons text Prefix (Start ∷ (Middle ∷ (End ∷ (Suffix ∷ []))))
+      ∙ ap (λ l. text Prefix ++ l) (flat_map-cons text Start (Middle ∷ (End ∷ (Suffix ∷ [])))
+      ∙ ap (λ l. text Start ++ l) (flat_map-cons text Middle (End ∷ (Suffix ∷ []))
+      ∙ ap (λ l. text Middle ++ l) (flat_map-cons text End (Suffix ∷ [])
+      ∙ ap (λ l. text End ++ l) (flat_map-cons text Suffix [] ∙ append-nil (text Suffix)))))
+
+  module _ (i : ℕ) (h : i < length segments) where
+    abbrev segment : RangeSegment
+    segment = get_or segments i Prefix
+
+    -- one segment more
+    pub text-more :
+        flat_map (segment_text t) (take (i + 1) segments)
+        ≡ flat_map (segment_text t) (take i segments) ++ segment_text t segment
+    text-more = flat_map-more (segment_text t) segments i segment h (get_or_default segments i Prefix segment h)
+
+    -- the segments before one, that one, and those after it
+    pub text-split :
+        flat_map (segment_text t) (take i segments)
+        ++ (segment_text t segment ++ flat_map (segment_text t) (drop (i + 1) segments))
+        ≡ formatted_range_text t
+    text-split =
+        flat_map-split (segment_text t) segments i segment h (get_or_default segments i Prefix segment h)
+        ∙ text-of_segments
+
+regroup : (a b s m e x c : List ℕ)
+    → (a ++ b) ++ (s ++ (m ++ (e ++ (x ++ c)))) ≡ a ++ (b ++ ((s ++ (m ++ e)) ++ (x ++ c)))
+regroup a b s m e x c = simp append_assoc
+
+module _ (t : FormattedRange) where
+  abbrev inner : RangeSegment → List ℕ
+  inner segment = pieces_text (inner_range_pieces t segment)
+
+  -- the text with a number within what is around the whole text
+  pub text-of_outer_range : (u : Around) → outer_of t.start ≡ u → u.has_number ≡ true
+      → inner Prefix ++ (pieces_text u.prefix ++ (numbers_text t ++ (inner Suffix ++ pieces_text u.suffix)))
+      ≡ formatted_range_text t
+  text-of_outer_range u is h =
+      let p = inner_pieces t.form (shown_range t) in
+      sym (ap (λ o. text_of_pieces (with_outer o p)) is
+      ∙ (λ i. text-append p.prefix u.prefix i
+      ++ (pieces_text (pieces_if (h i) p.start)
+      ++ (pieces_text (pieces_if (h i) p.middle)
+      ++ (pieces_text (pieces_if (h i) p.end) ++ pieces_text (pieces_if (h i) p.suffix ++ u.suffix)))))
+      ∙ (λ i. (inner Prefix ++ pieces_text u.prefix)
+      ++ (inner Start ++ (inner Middle ++ (inner End ++ text-append p.suffix u.suffix i))))
+      ∙ regroup (inner Prefix) (pieces_text u.prefix) (inner Start) (inner Middle) (inner End) (inner Suffix)
+      (pieces_text u.suffix))
+
+  -- without anything around it
+  pub text-of_bare_range : outer_of t.start ≡ around [] true []
+      → inner Prefix ++ (numbers_text t ++ inner Suffix) ≡ formatted_range_text t
+  text-of_bare_range is =
+      (λ i. inner Prefix ++ (numbers_text t ++ sym (append-nil (inner Suffix)) i))
+      ∙ text-of_outer_range (around [] true []) is refl
+
+abbrev numbers_in : RangePieces → List ℕ
+numbers_in p = pieces_text p.start ++ (pieces_text p.middle ++ pieces_text p.end)
+
+module _ (t : FormattedRange) where
+  abbrev separator : List ℕ
+  separator = pieces_text (separator_pieces t.format.separator t.spaced)
+
+  -- the text of two numbers between the affixes of the first one
+  pub text-of_common_numbers : t.form ≡ Common → (around_of t.start).has_number ≡ true
+      → number_text t.start ++ (separator ++ number_text t.end) ≡ numbers_text t
+  text-of_common_numbers is h =
+      let r = shown_range t in
+      sym (ap (λ form. numbers_in (inner_pieces form r)) is
+      ∙ (λ i. pieces_text (pieces_if (h i) (end_number r.start))
+      ++ (pieces_text (pieces_if (h i) (separator_pieces t.format.separator t.spaced))
+      ++ pieces_text (pieces_if (h i) (end_number r.end))))
+      ∙ (λ i. text-of_number t.start i ++ (separator ++ text-of_number t.end i)))
+
+  -- and of two numbers with affixes of their own
+  pub text-of_numbers_apart : t.form ≡ Apart → inner_text t.start ++ (separator ++ inner_text t.end) ≡ numbers_text t
+  text-of_numbers_apart is =
+      sym (ap (λ form. numbers_in (inner_pieces form (shown_range t))) is
+      ∙ (λ i. text-of_inner t.start i ++ (separator ++ text-of_inner t.end i)))

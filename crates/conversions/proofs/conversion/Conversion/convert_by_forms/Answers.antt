@@ -7,8 +7,8 @@ use Rattle.conversions.proofs.conversion.Conversion.convert_by_forms.Goals as go
 
 pub returns-in-Err-clause-fails_with : goal.returns-in-Err-clause-fails_with
 returns-in-Err-clause-fails_with g c =
-    last_fails c.args.self.now c.args.text.now c.in-Err.error
-    (rw c.as_slice.ensures.value at c.in-Err.ensures.fails_with)
+    rw c.from.ensures
+    (last_fails c.args.self.now c.args.text.now _ (rw c.as_slice.ensures.value at c.in-Err.ensures.fails_with))
 
 pub returns-in-Ok-clause-written : goal.returns-in-Ok-clause-written
 returns-in-Ok-clause-written g c =

@@ -3,7 +3,7 @@ use Rattle.locale_data.specs.Currencies.{IsCurrencyPattern}
 use Rattle.number_format.proofs.format.style.money.Goals as goal
 
 pub returns : goal.returns
-returns c =
+returns c system named =
     let written = c.currency_pattern-written.result in
     record {
       written = written;
@@ -12,5 +12,5 @@ returns c =
           c.currency_sign-sign.ensures c.currency_pattern-written.ensures;
       pattern = c.money_pattern.ensures;
       own_is = c.of.ensures;
-      shown_is = c.in_system.ensures;
+      shown_is = c.in_system.ensures system named;
     }

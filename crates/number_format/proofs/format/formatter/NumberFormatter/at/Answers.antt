@@ -6,4 +6,4 @@ use Rattle.number_format.proofs.format.formatter.NumberFormatter.at.Goals as goa
 pub returns-clause-some : goal.returns-clause-some
 returns-clause-some c =
     subst (λ texts. IfSome c.with_outer.result (IsFormatterWith c.args.ids.now texts c.args.options.now))
-    c.alone-outer.ensures c.with_outer.ensures.some
+    c.outer_of_one.ensures c.with_outer.ensures.some

@@ -1,6 +1,6 @@
 use Rattle.std.proofs.Common.{refl, ◌∙◌, ap, sym, subst}
 use Rattle.number_format.specs.Formatters.{style_sizes, IsStyle}
-use Rattle.number_format.proofs.lemmas.format.StyleSystems.{has_system, style_in_system}
+use Rattle.number_format.proofs.lemmas.format.StyleSystems.{has_system}
 use Rattle.number_format.proofs.format.formatter.NumberFormatter.with_outer.Goals as goal
 
 pub returns-clause-some : goal.returns-clause-some
@@ -10,12 +10,11 @@ returns-clause-some c =
     let written = c.style_of-shown.result.0 in
     let currency = c.in_ok-currency.currency in
     let own = c.in_ok-symbols.symbols in
-    let text = c.in_ok-system.system.now in
     let named = has_system c.args.ids.now.symbols o.numbering_system own (sym c.in_ok-symbols.ensures.value) in
     let style =
-    subst (λ z. IsStyle o.style o.notation c.in_style-outer.result text z formats currency o.sign_display written
+    subst (λ z. IsStyle o.style o.notation c.in_style-outer.result named.0 z formats currency o.sign_display written
     c.style_of-shown.result.1)
-    c.sizes-own.ensures c.style_of-shown.ensures in
+    c.sizes-own.ensures (c.style_of-shown.ensures named.0 named.1) in
     let sizes =
     c.style_sizes-sizes.ensures ∙ ap (style_sizes written.pattern o.group_sizes o.grouping) c.sizes-own.ensures in
     record {
@@ -32,9 +31,7 @@ returns-clause-some c =
         written = written;
         signs_are = c.signs-signs.ensures;
         outer = c.in_style-outer.ensures;
-        style_is = style_in_system o.notation c.in_style-outer.result _ named.0 text own.sizes formats currency
-            o.sign_display written
-            c.style_of-shown.result.1 o.style named.1 c.in_ok-system.ensures.value style;
+        style_is = style;
         symbols = c.with_sizes.ensures ∙ (λ i. record (c.with_separators.ensures i) { sizes = sizes i });
         pattern = refl;
         percent = c.new.ensures.text ∙ c.percent_text-percent.ensures.value;

@@ -1,5 +1,0 @@
-use Rattle.std.proofs.{Common.arith, Output.has_written_styled_append}
-use Rattle.number_format.proofs.format.formatted_number.FormattedNumberDisplay.fmt.Goals as goal
-
-pub returns-clause-styled : goal.returns-clause-styled
-returns-clause-styled g c = grind (arith, has_written_styled_append)
