@@ -66,10 +66,11 @@ typedef enum fd_status {
     FD_UNKNOWN_NUMBERING_SYSTEM = 18, /* no numbering system is known by the name in the options */
     FD_UNREADABLE_FORMAT = 19, /* the numbers of the options are not read: two have the same text, a text of the unit
                                   has no number, no integer digit has to be written, or a decimal separator is always
-                                  written. With an exponent or in compact notation also: numbers are rounded to an
-                                  increment, or integer digits are cut off. With an exponent also: its minus sign is
-                                  not written, or a unit or a name of a currency is. In compact notation also: a word
-                                  without a number is not that of 1 alone, as "mille" is */
+                                  written. A text of the unit without a number is read in standard notation if no sign
+                                  is ever written and no other number has its plural category. With an exponent or in
+                                  compact notation also: numbers are rounded to an increment, or integer digits are cut
+                                  off. With an exponent also: its minus sign is not written. In compact notation also:
+                                  a word without a number is not that of 1 alone, as "mille" is */
     FD_DIGIT_OPTIONS = 20,     /* the numbers of digits are those of no format, by the fd_digit_reason at */
     FD_NO_SKELETON = 21,       /* no skeleton has these options */
     FD_FORMATTER = 22,         /* the bytes are no fd_formatter */

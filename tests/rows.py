@@ -182,7 +182,7 @@ def has_unreadable_words(own, tag, options):
 
 def may_be_unreadable(made, tag, options):
     """Whether there may be no reader: of a unit or words without a number, of words with two meanings, of numbers that
-    are not in standard notation with an increment, and of an exponent without a sign or with a name around it."""
+    are not in standard notation with an increment, and of an exponent without a sign."""
     own = made.formatter.options
     if own.scale == -32768 or own.minimum_integer_digits == 0 or own.decimal_separator:
         return True
@@ -194,7 +194,7 @@ def may_be_unreadable(made, tag, options):
         return True
     if own.notation in COMPACT:
         return has_unreadable_words(own, tag, options)
-    return own.exponent_sign == EXPONENT_NEVER or has_name(own)
+    return own.exponent_sign == EXPONENT_NEVER
 
 
 def is_read_without_an_end(made, text, value):
@@ -309,14 +309,15 @@ def is_only_text(made, text, value):
 
 def reads(made, options, text, expected):
     """Whether a text has a value or an error, also when it is read leniently, and no text with a change has the value.
-    A text with an exponent has more digits than its value, so no changes of it are tried."""
+    A text with an exponent has more digits than its value, and one without a number has fewer, so no changes of these
+    are tried."""
     value = read(made, text, 0)
     if READ_ERRORS.get(value, value) != expected:
         return False
     if expected in READ_ERRORS.values() or len(text.encode()) > 100:
         return True
-    has_exponent = {"notation", "scientific", "engineering"} & options.keys()
-    return (has_exponent or is_only_text(made, text.encode(), expected)) and read(made, text, 1) == expected
+    has_other_digits = {"notation", "scientific", "engineering"} & options.keys() or not has_number(text)
+    return (has_other_digits or is_only_text(made, text.encode(), expected)) and read(made, text, 1) == expected
 
 
 @functools.lru_cache(None)

@@ -119,6 +119,33 @@ static inline PyObject *ascii_str(const char *bytes, Py_ssize_t count) {
 #endif
 }
 
+/* The str of bytes that are UTF-8, as those of each text that the library writes. Short ones are decoded here, in half
+ * the time that Python takes if they are not ASCII. */
+static PyObject *utf8_str(const uint8_t *bytes, size_t count) {
+#ifndef Py_LIMITED_API
+    if (count <= ROOM) {
+        Py_ssize_t length = 0;
+        uint8_t highest = 0;
+        for (size_t at = 0; at < count; at++) {
+            length += (bytes[at] & 0xC0) != 0x80;
+            if (bytes[at] > highest) highest = bytes[at];
+        }
+        /* The lead byte of U+0100 is C4, and that of U+10000 is F0. */
+        PyObject *made = PyUnicode_New(
+            length, highest < 0x80 ? 0x7F : highest < 0xC4 ? 0xFF : highest < 0xF0 ? 0xFFFF : 0x10FFFF);
+        for (Py_ssize_t to = 0; made && to < length; to++) {
+            Py_UCS4 code = *bytes++;
+            int following = code < 0xC0 ? 0 : code < 0xE0 ? 1 : code < 0xF0 ? 2 : 3;
+            if (following) code &= 0x3F >> following;
+            while (following--) code = code << 6 | (*bytes++ & 0x3F);
+            PyUnicode_WRITE(PyUnicode_KIND(made), PyUnicode_DATA(made), to, code);
+        }
+        return made;
+    }
+#endif
+    return PyUnicode_DecodeUTF8((const char *)bytes, (Py_ssize_t)count, NULL);
+}
+
 /* The UTF-8 bytes of a str. One with a lone surrogate has none: DecimalError by the status. NULL with an exception. */
 static const uint8_t *utf8_of(PyObject *text, size_t *count, const char *what, uint32_t status) {
     Py_ssize_t size;
@@ -731,7 +758,7 @@ static PyObject *written(Writer write, const void *job, const Number *start, con
         if (!bytes) return PyErr_NoMemory();
         answer = write(job, bytes, room);
     }
-    if (answer.status == FD_OK) made = PyUnicode_DecodeUTF8((char *)bytes, (Py_ssize_t)answer.count, NULL);
+    if (answer.status == FD_OK) made = utf8_str(bytes, answer.count);
     else fail_number(answer.status, answer.at, start, end);
     if (bytes != buffer) PyMem_Free(bytes);
     return made;

@@ -594,6 +594,15 @@ def test_number_format():
     check(more.get("maximum_significant_digits", 0) is None, "no maximum", more)
 
 
+def test_characters():
+    """The text of a format is a str of characters up to U+007F, U+00FF and U+FFFF and beyond, short and long."""
+    for locale, want in (("en", "13%"), ("de", "13\xa0%"), ("ar-EG", "١٣٪\u061c"), ("ccp", "𑄷𑄹%")):
+        percent = NumberFormat(locale, style="percent")
+        check(percent.format("0.125") == want, locale, percent.format("0.125"))
+        many = percent.format("7" * 40)
+        check(many == many.encode().decode() and percent.read(many) == Decimal("7" * 40 + ".00"), locale, many)
+
+
 def test_errors_of_number_formats():
     euros = NumberFormat("de", **EUROS)
     for call, message in (
@@ -1260,6 +1269,7 @@ if __name__ == "__main__":
     test_options()
     test_number_format()
     test_ranges()
+    test_characters()
     test_errors_of_number_formats()
     test_units()
     test_values_of_number_formats()

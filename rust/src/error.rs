@@ -119,6 +119,8 @@ pub enum NumberReadError {
     /// There is no such format.
     Format(NumberFormatError),
     /// The numbers of the format are not read: two have the same text, or a text of the unit has no number.
+    /// In standard notation a text of the unit without a number is read if no sign is ever written and no other number
+    /// has its plural category.
     /// With an exponent or in compact notation also: they are rounded to an increment, or integer digits are cut off.
     /// With an exponent also: its minus sign is not written, or a unit or a name of a currency is. In compact notation
     /// also: a word without a number is not that of 1 alone, as `mille` is.

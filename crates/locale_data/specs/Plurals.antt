@@ -1,6 +1,6 @@
 -- The plural rules of tags.
-use Rattle.std.specs.{Prelude.{◌≡◌, ◌==◌, ◌&&◌, ◌||◌, if◌then◌else◌, ℕ, List, [], ◌∷◌, Bool, true, false, Option, None, is_none, Some, Result, Ok, Err, IsSomeAnd, codes, slice_get}, List.{list_any, list_all}, Option.option_map}
-use Rattle.plural_rules.specs.{Operands.Operands, Rules.{RelationValue, RuleValue}, RulesGrammar.{Grammar, IsCategoryByText}, RulesParseResult.IsParseResult, declared.rules.{Operand.{Operand, TheVariants.{N, I, V}}, PluralCategory.{PluralCategory, TheVariants.One}, Range.Range}}
+use Rattle.std.specs.{Prelude.{◌≡◌, ◌==◌, ◌&&◌, ◌||◌, if◌then◌else◌, ℕ, List, [], ◌∷◌, Bool, true, false, not, Option, None, is_none, Some, Result, Ok, Err, IsSomeAnd, codes, slice_get}, List.{list_any, list_all}, Option.option_map}
+use Rattle.plural_rules.specs.{Operands.Operands, Rules.{RelationValue, RuleValue}, RulesGrammar.{Grammar, IsCategoryByText}, RulesParseResult.IsParseResult, declared.rules.{Operand.{Operand, TheVariants.{N, I, V}}, PluralCategory.{PluralCategory, TheVariants.{Zero, One, Two, Few, Many, Other}}, Range.Range}}
 use Rattle.plural_rules.specs.declared.parse.RulesError.TheVariants as rules
 use Rattle.locale_data.specs.{declared.{plurals.{PluralRulesError.{PluralRulesError, TheVariants.{UnknownLocale, Memory}}, PluralRuleType.{PluralRuleType, TheVariants.{Cardinal, Ordinal}}, PluralRulesId.PluralRulesId}, tables.{rows.{plurals.{LanguageRules.LanguageRules, RuleSet.RuleSet}, symbols.LocaleSymbols.LocaleSymbols}, plurals.TheConstants.{OTHER, PLURAL_RULES, PLURAL_RULES_TEXTS}, symbols.TheConstants.LOCALES}}, Rows.{part, IsRowOf}}
 
@@ -70,25 +70,39 @@ is_just n ranges = false
 abbrev pub is_equation : Operand → ℕ → RelationValue → Bool
 is_equation operand n r = operand_is operand r.operand && (is_none r.modulus && (r.is_equal && is_just n r.ranges))
 
--- the relations ask for the number 1: they have `n = 1`, or both `i = 1` and `v = 0`
-abbrev pub ask_for_one : List RelationValue → Bool
-ask_for_one relations =
-    list_any (is_equation N 1) relations
-    || (list_any (is_equation I 1) relations && list_any (is_equation V 0) relations)
+-- the relations ask for a number, as for 1: they have `n = 1`, or both `i = 1` and `v = 0`
+abbrev pub ask_for : ℕ → List RelationValue → Bool
+ask_for n relations =
+    list_any (is_equation N n) relations
+    || (list_any (is_equation I n) relations && list_any (is_equation V 0) relations)
 
-abbrev pub is_one : PluralCategory → Bool
-is_one One = true
-is_one category = false
+-- the category is the one that is wanted
+abbrev pub category_is : PluralCategory → PluralCategory → Bool
+category_is Zero Zero = true
+category_is One One = true
+category_is Two Two = true
+category_is Few Few = true
+category_is Many Many = true
+category_is Other Other = true
+category_is wanted category = false
 
--- if the rule is that of `one`, each alternative asks for the number 1
-abbrev pub asks_for_one : RuleValue → Bool
-asks_for_one r = if is_one r.category then list_all ask_for_one r.alternatives else true
+-- if the rule is that of the category, each alternative asks for the number
+abbrev pub asks_for : PluralCategory → ℕ → RuleValue → Bool
+asks_for category n r = if category_is category r.category then list_all (ask_for n) r.alternatives else true
+
+-- each rule of the category asks for the number; `other` has numbers without a rule
+abbrev pub are_alone : PluralCategory → ℕ → List RuleValue → Bool
+are_alone category n rules = not (category_is Other category) && list_all (asks_for category n) rules
+
+-- by the rules no other number is of the category
+abbrev pub HoldsAlone : PluralRulesId → PluralCategory → ℕ → Type 0
+HoldsAlone id category n =
+    IsSomeAnd (rules_text_at id)
+    (λ text. (rules : List RuleValue) × Grammar text rules × (are_alone category n rules ≡ true))
 
 -- by the rules no other number is `one`
 abbrev pub HasOneAlone : PluralRulesId → Type 0
-HasOneAlone id =
-    IsSomeAnd (rules_text_at id)
-    (λ text. (rules : List RuleValue) × Grammar text rules × (list_all asks_for_one rules ≡ true))
+HasOneAlone id = HoldsAlone id One 1
 
 -- the rules of a tag, or why there are none
 abbrev pub IsRulesOf : List ℕ → PluralRuleType → Result (List RuleValue) PluralRulesError → Type 0

@@ -42,7 +42,7 @@ pub use number_formats::NumberFormats;
 pub use numbering_system::{NumberingSystem, NumberingSystemError};
 pub use plural_ranges::plural_range_category;
 pub use plurals::{
-    PluralRuleType, PluralRulesError, PluralRulesId, is_one_alone, plural_category_at,
+    PluralRuleType, PluralRulesError, PluralRulesId, holds_alone, is_one_alone, plural_category_at,
     plural_rules_at, plural_rules_id, plural_rules_of, plural_rules_text, rules_text_at,
 };
 pub use range_formats::range_format;

@@ -1,7 +1,7 @@
 //! Plural categories by the rows of plural rules.
 ghost use Rattle.std.specs.{Prelude.{◌≡◌, List, map}, List.{list_any, list_all}};
 ghost use Rattle.plural_rules.specs.Rules.{holds, is_met, category_of};
-ghost use Rattle.locale_data.specs.{PluralRows.{relation_of, relations_in, rule_of, rules_in}, Plurals.{operand_is, is_just, is_equation, ask_for_one, asks_for_one}, Rows.part};
+ghost use Rattle.locale_data.specs.{PluralRows.{relation_of, relations_in, rule_of, rules_in}, Plurals.{operand_is, is_just, is_equation, ask_for, category_is, asks_for, are_alone}, Rows.part};
 ghost use Rattle.locale_data.specs.declared.tables.plurals.TheConstants.{PLURAL_ALTERNATIVES};
 
 use crate::search::part;
@@ -102,35 +102,55 @@ fn have_equation(operand: Operand, number: u64, relations: TableRange) -> bool
         .any(|relation| is_equation(operand, number, relation))
 }
 
-fn ask_for_one(relations: TableRange) -> bool
-    ensures { result ≡ ask_for_one (relations_in relations) }
+fn ask_for(number: u64, relations: TableRange) -> bool
+    ensures { result ≡ ask_for number (relations_in relations) }
 {
-    have_equation(Operand::N, 1, relations)
-        || have_equation(Operand::I, 1, relations) && have_equation(Operand::V, 0, relations)
+    have_equation(Operand::N, number, relations)
+        || have_equation(Operand::I, number, relations) && have_equation(Operand::V, 0, relations)
 }
 
-fn all_ask_for_one(alternatives: TableRange) -> bool
-    ensures { result ≡ list_all ask_for_one (map relations_in (part PLURAL_ALTERNATIVES alternatives)) }
+fn all_ask_for(number: u64, alternatives: TableRange) -> bool
+    ensures { result ≡ list_all (ask_for number) (map relations_in (part PLURAL_ALTERNATIVES alternatives)) }
 {
     part(&PLURAL_ALTERNATIVES, alternatives)
         .iter()
-        .all(|relations| ask_for_one(*relations))
+        .all(|relations| ask_for(number, *relations))
 }
 
-fn asks_for_one(rule: &RuleRow) -> bool
-    ensures { result ≡ asks_for_one (rule_of rule.now) }
+fn category_is(wanted: PluralCategory, category: PluralCategory) -> bool
+    ensures { result ≡ category_is wanted category }
 {
-    match rule.category {
-        PluralCategory::One => all_ask_for_one(rule.alternatives),
-        _ => true,
-    }
+    matches!(
+        (wanted, category),
+        (PluralCategory::Zero, PluralCategory::Zero)
+            | (PluralCategory::One, PluralCategory::One)
+            | (PluralCategory::Two, PluralCategory::Two)
+            | (PluralCategory::Few, PluralCategory::Few)
+            | (PluralCategory::Many, PluralCategory::Many)
+            | (PluralCategory::Other, PluralCategory::Other)
+    )
 }
 
-/// Returns whether each rule of `one` in a range of `PLURAL_RULE_ROWS` asks for the number 1.
-pub(crate) fn is_one_alone_in(rules: TableRange) -> bool
-    ensures { result ≡ list_all asks_for_one (rules_in rules) }
+fn asks_for(category: PluralCategory, number: u64, rule: &RuleRow) -> bool
+    ensures { result ≡ asks_for category number (rule_of rule.now) }
+{
+    if category_is(category, rule.category) {
+        return all_ask_for(number, rule.alternatives);
+    }
+    true
+}
+
+fn all_rules_ask_for(category: PluralCategory, number: u64, rules: TableRange) -> bool
+    ensures { result ≡ list_all (asks_for category number) (rules_in rules) }
 {
     part(&PLURAL_RULE_ROWS, rules)
         .iter()
-        .all(|rule| asks_for_one(rule))
+        .all(|rule| asks_for(category, number, rule))
+}
+
+/// Returns whether each rule of a category in a range of `PLURAL_RULE_ROWS` asks for a number; false of `other`.
+pub(crate) fn are_alone_in(category: PluralCategory, number: u64, rules: TableRange) -> bool
+    ensures { result ≡ are_alone category number (rules_in rules) }
+{
+    !category_is(PluralCategory::Other, category) && all_rules_ask_for(category, number, rules)
 }

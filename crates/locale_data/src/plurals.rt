@@ -1,9 +1,9 @@
 //! The plural rules of a tag.
 ghost use Rattle.std.specs.{Prelude.{◌≡◌, ◌↔◌, None, IfSome, IfNone, IsSomeAnd, IsTrue}, Option.option_copied};
-ghost use Rattle.locale_data.specs.Plurals.{set_of, set_at, rules_text_at, IsRulesText, HasNoRules, IsRulesAt, IsCategoryAt, IsRulesOf, HasOneAlone};
+ghost use Rattle.locale_data.specs.Plurals.{set_of, set_at, rules_text_at, IsRulesText, HasNoRules, IsRulesAt, IsCategoryAt, IsRulesOf, HoldsAlone, HasOneAlone};
 
 use crate::locales::locales;
-use crate::plural_rows::{category_in, is_one_alone_in};
+use crate::plural_rows::{are_alone_in, category_in};
 use crate::search::{Row, part, row_index};
 use crate::tables::plurals::{OTHER, PLURAL_RULES, PLURAL_RULES_TEXTS};
 use crate::tables::rows::Name;
@@ -195,10 +195,25 @@ pub fn plural_category_at<D: DigitStore>(
     }
 }
 
-/// Returns whether `one` is the category of the number 1 alone, by what the rules ask for: `n = 1`, or `i = 1` and
+/// Returns whether a category is that of one number alone, by what the rules ask for: of 1 `n = 1`, or `i = 1` and
 /// `v = 0`.
 ///
-/// It is false also if no language has the index.
+/// It is false of `other`, and also if no language has the index.
+///
+/// ```
+/// holds_alone(plural_rules_id("ar", PluralRuleType::Cardinal)?, PluralCategory::Two, 2) // true
+/// holds_alone(plural_rules_id("sl", PluralRuleType::Cardinal)?, PluralCategory::Two, 2) // false: 102 is `two` too
+/// ```
+pub fn holds_alone(rules: PluralRulesId, category: PluralCategory, number: u64) -> bool
+    ensures { IsTrue result ↔ HoldsAlone rules category number }
+{
+    match set_at(rules) {
+        Some(set) => are_alone_in(category, number, set.rules),
+        None => false,
+    }
+}
+
+/// Returns whether `one` is the category of the number 1 alone, as [`holds_alone`] does.
 ///
 /// ```
 /// is_one_alone(plural_rules_id("it", PluralRuleType::Cardinal)?) // true
@@ -207,10 +222,7 @@ pub fn plural_category_at<D: DigitStore>(
 pub fn is_one_alone(rules: PluralRulesId) -> bool
     ensures { IsTrue result ↔ HasOneAlone rules }
 {
-    match set_at(rules) {
-        Some(set) => is_one_alone_in(set.rules),
-        None => false,
-    }
+    holds_alone(rules, PluralCategory::One, 1)
 }
 
 /// Returns the plural rules of a tag: those of `plural_rules_text`.

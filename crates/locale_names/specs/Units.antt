@@ -1,11 +1,18 @@
 -- The identifiers of units.
-use Rattle.std.specs.{Prelude.{◌≡◌, ℕ, ◌+◌, ◌&&◌, ◌==◌, Bool, true, false, not, if◌then◌else◌, nat_eq, List, [], ◌∷◌, take, drop, codes, Option, None, Some, Result, Ok, Err, slice_get}, Option.{option_map, option_map_or}, List.{position_from, starts_with}, Str.bytes_eq}
+use Rattle.std.specs.{Cmp.Lexicographic.slice_cmp, Ordering.{is_lt, nat_cmp}, Prelude.{ℕ, ◌+◌, ◌&&◌, Bool, true, false, not, if◌then◌else◌, nat_eq, List, [], ◌∷◌, take, drop, codes, Option, None, Some, Result, Ok, Err, slice_get}, Option.{option_map, option_map_or}, List.{position_from, starts_with}, Str.bytes_eq}
 use Rattle.locale_names.specs.declared.{tables.{rows.units.UnitRow.UnitRow, units.TheConstants.{UNITS}}, unit_id.{Unit.Unit, UnitError.{UnitError, TheVariants.{Unknown, Numerator, Denominator}}, UnitId.UnitId}}
 use Rattle.locale_names.specs.Texts.{short_bytes}
 
 -- the row of a unit
 abbrev pub row_of : UnitId → Option UnitRow
 row_of id = slice_get UNITS id.index
+
+-- the identifiers of units are sorted by their bytes, and each is less than the next
+abbrev pub are_sorted : List UnitRow → Bool
+are_sorted [] = true
+are_sorted (u ∷ []) = true
+are_sorted (u ∷ v ∷ units) =
+    is_lt (slice_cmp nat_cmp (short_bytes u.name) (short_bytes v.name)) && are_sorted (v ∷ units)
 
 -- the index of the unit with an identifier
 abbrev pub index_in : List UnitRow → List ℕ → Option ℕ
@@ -56,6 +63,12 @@ whole_or_parts None text = parts_named (split_per text)
 -- what a text names: a unit, or else two units with `-per-` between them
 abbrev pub named : List ℕ → Result Indices UnitError
 named text = whole_or_parts (unit_index text) text
+
+-- the messages of the error
+abbrev pub error_text : UnitError → List ℕ
+error_text Unknown = codes "The text is no unit"
+error_text Numerator = codes "The text before -per- is no unit"
+error_text Denominator = codes "The text after -per- is no unit"
 
 -- ---- What ECMA-402 admits.
 

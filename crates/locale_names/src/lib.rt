@@ -9,6 +9,7 @@
 #![tactic(auto)]
 
 mod entries;
+mod error;
 mod locale_currencies;
 mod locale_row;
 mod locale_units;
@@ -22,3 +23,4 @@ pub use locale_units::{PerPatterns, UnitDisplay, UnitPattern, UnitPatterns, unit
 pub use tables::rows::TextRange;
 pub use tables::rows::currencies::NamePattern;
 pub use unit_id::{Unit, UnitError, UnitId};
+pub use units::split_per;

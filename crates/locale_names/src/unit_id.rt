@@ -40,7 +40,7 @@ pub struct Unit {
 /// ```
 #[derive(Clone, Copy, Debug, PartialEq)]
 pub enum UnitError {
-    /// It is no unit of CLDR, and has no `-per-`.
+    /// It is no unit of CLDR. Where two units may be named, it has no `-per-` either.
     Unknown,
     /// What precedes its first `-per-` is no unit of CLDR.
     Numerator,

@@ -1,12 +1,13 @@
 //! The identifiers of units.
-ghost use Rattle.std.specs.{Prelude.{◌≡◌, ◌+◌, ◌<◌, ◌≤◌, length, Some, None, IsSomeAnd, IfSome}, Option.option_map, Result.result_map_both};
-ghost use Rattle.locale_names.specs.{declared.tables.units.TheConstants.UNITS, Units.{row_of, index_of, indices_of, has, index_in, unit_index, per_from, split_per, with_denominator, named, is_sanctioned, is_sanctioned_part}, Texts.short_text};
+ghost use Rattle.std.specs.{Cmp.Lexicographic.slice_cmp, Ordering.nat_cmp, Prelude.{◌≡◌, ◌+◌, ◌<◌, ◌≤◌, length, true, Some, None, MatchResult, IfErr, IsSomeAnd, IfSome}, Option.option_map, Result.result_map_both};
+ghost use Rattle.locale_names.specs.{declared.{tables.units.TheConstants.UNITS, unit_id.UnitError.TheVariants.Unknown}, Units.{row_of, index_of, indices_of, has, are_sorted, index_in, unit_index, per_from, split_per, with_denominator, named, is_sanctioned, is_sanctioned_part}, Texts.{short_bytes, short_text}};
 
 use crate::tables::rows::units::UnitRow;
 use crate::tables::units::UNITS;
 use crate::texts::{short_bytes, short_text};
 use crate::unit_id::{Unit, UnitError, UnitId};
 use locale_data::indexed_row;
+use std::cmp::Ordering;
 
 impl UnitId {
     fn row(self) -> &'static UnitRow
@@ -36,14 +37,23 @@ impl UnitId {
 
     /// Returns the unit with an identifier. Letters have to be of the same case.
     ///
+    /// # Errors
+    ///
+    /// `Unknown`: no unit of CLDR has this identifier.
+    ///
     /// ```
-    /// UnitId::try_from_str("kilometer-per-hour") // Some
-    /// UnitId::try_from_str("Meter") // None
+    /// UnitId::try_from_str("kilometer-per-hour")?
+    /// UnitId::try_from_str("Meter") // Unknown
     /// ```
-    pub fn try_from_str(name: &str) -> Option<UnitId>
-        ensures { option_map index_of result ≡ unit_index name.now }
+    pub fn try_from_str(name: &str) -> Result<UnitId, UnitError>
+        ensures value { MatchResult result (λ unit. unit_index name.now ≡ Some unit.index)
+            (λ e. unit_index name.now ≡ None) }
+        ensures err { IfErr result (λ e. e ≡ Unknown) }
     {
-        unit_named(name.as_bytes())
+        match unit_named(name.as_bytes()) {
+            Some(unit) => Ok(unit),
+            None => Err(UnitError::Unknown),
+        }
     }
 
     /// Returns the identifier.
@@ -75,16 +85,21 @@ impl UnitId {
     }
 }
 
+fn compared(unit: &UnitRow, name: &[u8]) -> Ordering
+    ensures { result ≡ slice_cmp nat_cmp (short_bytes unit.now.name) name.now }
+{
+    short_bytes(unit.name).cmp(&name)
+}
+
 fn index_in(units: &[UnitRow], name: &[u8]) -> Option<usize>
+    requires { are_sorted units.now ≡ true }
     ensures value { result ≡ index_in units.now name.now }
     ensures inside { IfSome result (λ index. index < length units.now) }
 {
-    for (index, unit) in units.iter().enumerate() {
-        if short_bytes(unit.name) == name {
-            return Some(index);
-        }
+    match units.binary_search_by(|unit| compared(unit, name)) {
+        Ok(index) => Some(index),
+        Err(_) => None,
     }
-    None
 }
 
 fn unit_named(name: &[u8]) -> Option<UnitId>
@@ -108,7 +123,13 @@ fn per_index(text: &[u8]) -> Option<usize>
     None
 }
 
-fn split_per(text: &[u8]) -> Option<(&[u8], &[u8])>
+/// Returns what precedes the first `-per-` of a text, and what follows it.
+///
+/// ```
+/// split_per(b"gram-per-second") // gram, second
+/// split_per(b"gram") // None
+/// ```
+pub fn split_per(text: &[u8]) -> Option<(&[u8], &[u8])>
     ensures { option_map (λ parts. (parts.0.now, parts.1.now)) result ≡ split_per text.now }
 {
     match per_index(text) {
@@ -137,6 +158,7 @@ impl Unit {
     /// Returns the unit that a text names: one, or two with `-per-` between them.
     ///
     /// # Errors
+    ///
     /// Which part of the text is no unit of CLDR.
     ///
     /// ```

@@ -2,7 +2,7 @@
 use Rattle.std.specs.{Prelude.{◌≡◌, ℕ, zero, suc, ◌<◌, ◌/◌, ◌%◌, ◌+◌, ◌==◌, Bool, true, false, not, ◌&&◌, if◌then◌else◌, ◌⊎◌, List, ◌++◌, Option, None, Some, is_none, Result, Ok, Err, ℤ, pos, ◌+ℤ◌, ◌-ℤ◌}, Int.int_min, List.Contains}
 use Rattle.decimal_digits.specs.Number.{first}
 use Rattle.decimal_unsigned.specs.{Unsigned.{Unsigned, one_value}, declared.error.ParseError.{ParseError, TheVariants.Syntax}}
-use Rattle.fixed_decimal.specs.{Decimal.Decimal, declared.variations.Sign.Sign}
+use Rattle.fixed_decimal.specs.{Decimal.Decimal, declared.variations.{Sign.Sign, SignDisplay.SignDisplay}}
 use Rattle.plural_rules.specs.Operands as operands
 use Rattle.plural_rules.specs.declared.rules.PluralCategory.{PluralCategory}
 use Rattle.decimal_format.specs.{Formatted.absolute_text, Readable.{BeginsWithDigit, IsReadable}, Reading.IsRead, Symbols.{Symbols, affixes}, declared.grouping.GroupingStrategy.GroupingStrategy}
@@ -113,12 +113,21 @@ magnitude_by v e = if v.number == 0 then pos 0 else int_min (first v.number +ℤ
 abbrev pub is_unit : Unsigned → Bool
 is_unit v = operands.i v == 1 && operands.w v == 0
 
+-- no sign is ever written
+abbrev pub HidesSigns : NumberFormatter → Type 0
+HidesSigns f = f.options.sign_display ≡ SignDisplay.Never
+
+-- the pattern for 1 itself is chosen for 1 and for no other number; without signs the number may be -1 too, for which
+-- it is not chosen
+abbrev pub ChoosesOne : NumberFormatter → Decimal → Bool → Type 0
+ChoosesOne f v one = (one ≡ is_unit v.absolute) ⊎ ((one ≡ false) × HidesSigns f)
+
 -- the key is one of a significand: its magnitude is that of the number with the power of ten of its pattern, and its
--- category that of the significand; a sign that is not shown may keep a pattern for 1 itself from being chosen
+-- category that of the significand
 pub record IsOwnKey (f : NumberFormatter) (v : Decimal) (k : CompactKey) : Type 0 where
   pub magnitude : k.magnitude ≡ magnitude_by v.absolute (exponent_at f.notation k.magnitude)
   pub category : IsCategoryAt f.rules (operands.plain v.absolute) k.category
-  pub is_one : k.is_one ≡ true → is_unit v.absolute ≡ true
+  pub one : ChoosesOne f v k.is_one
   pub sign : k.sign ≡ v.sign
 
 -- the pattern has the texts of such a key

@@ -13,6 +13,7 @@ pub mod PatternTexts
 pub mod FormattedNumbers
 pub mod NumberText
 pub mod Formatters
+pub mod WholeUnits
 pub mod NumberReading
 pub mod ScientificReading
 pub mod AffixedExponents

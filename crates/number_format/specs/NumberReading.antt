@@ -1,11 +1,11 @@
 -- What a formatter writes, read exactly and as people type it.
-use Rattle.std.specs.{Prelude.{◌≡◌, ◌≢◌, ℕ, ◌⊎◌, true, false, List, [], ◌∷◌, ◌++◌, map, flat_map, codes, Option, None, Some, option_map, Result, Err, ◌-ℤ◌, pos, negsuc, ⊤}, Str.IsUtf8}
+use Rattle.std.specs.{Prelude.{◌≡◌, ◌≢◌, ℕ, ◌⊎◌, true, false, List, [], ◌∷◌, ◌++◌, map, flat_map, codes, Option, None, Some, option_map, Result, Err, ◌-ℤ◌, pos, negsuc, ⊤, if◌then◌else◌}, Str.IsUtf8}
 use Rattle.decimal_unsigned.specs.declared.error.ParseError.{ParseError, TheVariants.Syntax}
 use Rattle.fixed_decimal.specs.{Decimal.Decimal, declared.variations.Sign.Sign}
 use Rattle.plural_rules.specs.declared.rules.PluralCategory.{PluralCategory}
 use Rattle.decimal_format.specs.{Readable.IsReadable, Symbols.{Affixes, affixes}, declared.reader.alternatives.Alternative.Alternative}
 use Rattle.locale_data.specs.declared.compact.CompactStyle.{CompactStyle}
-use Rattle.number_format.specs.{declared.{digits.options.DigitOptions.DigitOptions, format.{outer.OuterTexts.OuterTexts, formatter.NumberFormatter.NumberFormatter}, options.{DecimalSeparatorDisplay.DecimalSeparatorDisplay, NumberNotation.NumberNotation, NumberStyle.NumberStyle}, read.{pattern.{NumberPattern.NumberPattern, TheConstants.{SIGN_KEYS, CATEGORY_KEYS}}, scientific.ExponentForm.ExponentForm, number_reader.{NumberReaderError.NumberReaderError, ParseMode.{ParseMode, TheVariants.{Strict, Lenient}}}}}, AffixedTexts.{AreNamed, Reader, IsReadExactly, IsReadTyped}, CompactReading.{HasCompactExponents, HasWordNumbers, AreWordsNamed, IsReadInWords}, NumberText.{compact_style, needs_no_integer, outer_by, shown_number, shown_sign}, PatternTexts.{Around, around, affixes_for}, Scaled.{ScaledValue, HasNoIncrement}, ScientificReading.{exponent_form, CanReadExponent}, AffixedExponents.{IsReadWithExponent, IsTypedWithExponent}, TextParts.pieces_text, TypedWords.IsTypedInWords}
+use Rattle.number_format.specs.{declared.{digits.options.DigitOptions.DigitOptions, format.{outer.OuterTexts.OuterTexts, formatter.NumberFormatter.NumberFormatter}, options.{DecimalSeparatorDisplay.DecimalSeparatorDisplay, NumberNotation.NumberNotation, NumberStyle.NumberStyle}, read.{pattern.{NumberPattern.NumberPattern, TheConstants.{SIGN_KEYS, CATEGORY_KEYS}}, scientific.ExponentForm.ExponentForm, number_reader.{NumberReaderError.NumberReaderError, ParseMode.{ParseMode, TheVariants.{Strict, Lenient}}}}}, AffixedTexts.{AreNamed, Reader, IsReadExactly, IsReadTyped}, CompactReading.{HasCompactExponents, HasWordNumbers, AreWordsNamed, IsReadInWords}, NumberText.{compact_style, needs_no_integer, outer_by, shown_number, shown_sign}, PatternTexts.{Around, around, affixes_for}, Scaled.{ScaledValue, HasNoIncrement}, ScientificReading.{exponent_form, CanReadExponent}, AffixedExponents.{IsReadWithExponent, IsTypedWithExponent}, TextParts.pieces_text, TypedWords.IsTypedInWords, WholeUnits.{AreCategoriesRead, IsCategoryUnread, IsSaidOr}}
 
 -- ---- Exactly.
 
@@ -19,10 +19,9 @@ abbrev pub KeepsNotation : Option DigitOptions → Type 0
 KeepsNotation (Some o) = (o.integer.max ≡ 32768) × HasNoIncrement o.precision
 KeepsNotation None = ⊥
 
--- exponents are written in this form, and can be read, and no unit and no name of a currency is written
+-- exponents are written in this form, and can be read
 abbrev pub CanReadExponents : NumberFormatter → Option ExponentForm → Type 0
-CanReadExponents f (Some form) =
-    (f.outer ≡ OuterTexts.None) × (KeepsNotation f.digits × CanReadExponent f.style.symbols form)
+CanReadExponents f (Some form) = KeepsNotation f.digits × CanReadExponent f.style.symbols form
 CanReadExponents f None = ⊥
 
 -- the kind of compact patterns that are written, if there is one
@@ -72,9 +71,16 @@ abbrev pub keys_by : OuterTexts → List (Option PluralCategory × Sign)
 keys_by OuterTexts.None = SIGN_KEYS
 keys_by texts = CATEGORY_KEYS
 
+-- of a category whose text has no number, `other`: that text is around no number
+abbrev pub number_key : NumberFormatter → Option PluralCategory × Sign → Option PluralCategory × Sign
+number_key f key = (if (outer_at f key.0).has_number then key.0 else Some PluralCategory.Other, key.1)
+
+abbrev pub number_pattern : NumberFormatter → Option PluralCategory × Sign → NumberPattern
+number_pattern f key = pattern_at f (number_key f key)
+
 -- the patterns of a formatter
 abbrev pub patterns_of : NumberFormatter → List NumberPattern
-patterns_of f = map (pattern_at f) (keys_by f.outer)
+patterns_of f = map (number_pattern f) (keys_by f.outer)
 
 -- the reader of its texts, which undoes its scale
 abbrev pub reader_of : NumberFormatter → Reader
@@ -85,10 +91,10 @@ reader_of f = record {
   shift = pos 0 -ℤ f.options.scale;
 }
 
--- the number is written in each text, without words and with an exponent only if it can be read, and the scale can be
--- undone
+-- each text has the number, without words and with an exponent only if it can be read, or is read without it; and the
+-- scale can be undone
 abbrev pub CanUndo : NumberFormatter → Type 0
-CanUndo f = HasPlainDigits f × HasNumbers f × (f.options.scale ≢ negsuc 32767)
+CanUndo f = HasPlainDigits f × AreCategoriesRead f × (f.options.scale ≢ negsuc 32767)
 
 -- the texts with words are told apart, if there are any
 abbrev pub AreOwnWordsNamed : NumberFormatter → Option CompactStyle → Type 0
@@ -105,8 +111,8 @@ pub record CanRead (f : NumberFormatter) : Type 0 where
 -- what an error says; `Memory` is reported only where the texts are read
 abbrev pub CannotRead : NumberReaderError → NumberFormatter → Type 0
 CannotRead NumberReaderError.Notation f = ¬ HasPlainDigits f
-CannotRead (NumberReaderError.NoNumber c) f = HasPlainDigits f × ((outer_by f c).has_number ≡ false)
-CannotRead NumberReaderError.Scale f = HasPlainDigits f × HasNumbers f × (f.options.scale ≡ negsuc 32767)
+CannotRead (NumberReaderError.NoNumber c) f = HasPlainDigits f × IsCategoryUnread f c
+CannotRead NumberReaderError.Scale f = HasPlainDigits f × AreCategoriesRead f × (f.options.scale ≡ negsuc 32767)
 CannotRead NumberReaderError.Memory f = CanRead f
 CannotRead NumberReaderError.Symbols f = CanUndo f × ¬ IsReadable f.style.symbols
 CannotRead NumberReaderError.Affixes f =
@@ -161,6 +167,7 @@ typed_forms f =
     ∷ flat_map forms_of_name (names_by f f.options.style)
 
 pub record NumberReader : Type 0 where
+  pub units : OuterTexts
   pub texts : Reader
   pub exponent : Option ExponentForm
   pub words : Option (NumberFormatter × CompactStyle)
@@ -172,34 +179,39 @@ word_formatter f = option_map (λ style. (f, style)) (words_of f)
 
 abbrev pub number_reader_of : NumberFormatter → NumberReader
 number_reader_of f = record {
+  units = f.outer;
   texts = reader_of f;
   exponent = exponent_form f f.options.notation;
   words = word_formatter f;
   forms = typed_forms f;
 }
 
+-- the result of reading a text in standard notation exactly: of a text without a number the number that it says
+abbrev pub IsReadOrSaid : ℕ → OuterTexts → Reader → List ℕ → Result Decimal ParseError → Type 0
+IsReadOrSaid inline units r text = IsSaidOr units r.shift text (IsReadExactly inline r text)
+
 -- the result of reading a text exactly, with an exponent or with words if the formatter writes them
-abbrev pub IsReadBy : ℕ → Reader → Option ExponentForm → Option (NumberFormatter × CompactStyle) → List ℕ
+abbrev pub IsReadBy : ℕ → OuterTexts → Reader → Option ExponentForm → Option (NumberFormatter × CompactStyle) → List ℕ
     → Result Decimal ParseError → Type 0
-IsReadBy inline r None None text result = IsReadExactly inline r text result
-IsReadBy inline r None (Some w) text result = IsReadInWords inline w.0 w.1 text result
-IsReadBy inline r (Some form) words text result = IsReadWithExponent inline r form text result
+IsReadBy inline units r None None text result = IsReadOrSaid inline units r text result
+IsReadBy inline units r None (Some w) text result = IsReadInWords inline w.0 w.1 text result
+IsReadBy inline units r (Some form) words text result = IsReadWithExponent inline r form text result
 
 abbrev pub IsReadStrictly : ℕ → NumberReader → List ℕ → Result Decimal ParseError → Type 0
-IsReadStrictly inline r text result = IsReadBy inline r.texts r.exponent r.words text result
+IsReadStrictly inline r text result = IsReadBy inline r.units r.texts r.exponent r.words text result
 
 -- the result of lenient reading with alternatives
-abbrev pub IsTypedBy : ℕ → Reader → Option ExponentForm → Option (NumberFormatter × CompactStyle) → List Alternative
-    → List ℕ → Result Decimal ParseError → Type 0
-IsTypedBy inline r None None all text result = IsReadTyped inline r all text result
-IsTypedBy inline r None (Some w) all text result = IsTypedInWords inline w.0 w.1 r all text result
-IsTypedBy inline r (Some form) words all text result = IsTypedWithExponent inline r form all text result
+abbrev pub IsTypedBy : ℕ → OuterTexts → Reader → Option ExponentForm → Option (NumberFormatter × CompactStyle)
+    → List Alternative → List ℕ → Result Decimal ParseError → Type 0
+IsTypedBy inline units r None None all text result = IsSaidOr units r.shift text (IsReadTyped inline r all text) result
+IsTypedBy inline units r None (Some w) all text result = IsTypedInWords inline w.0 w.1 r all text result
+IsTypedBy inline units r (Some form) words all text result = IsTypedWithExponent inline r form all text result
 
 -- the result of lenient reading: by the first of these forms that has a number
 abbrev pub IsReadLeniently : ℕ → NumberReader → List ℕ → Result Decimal ParseError → Type 0
 IsReadLeniently inline r text result =
     (alternatives : List Alternative) × (map form_of alternatives ≡ r.forms)
-    × IsTypedBy inline r.texts r.exponent r.words alternatives text result
+    × IsTypedBy inline r.units r.texts r.exponent r.words alternatives text result
 
 -- the result of reading in a mode; leniently, a text that is not UTF-8 is `Syntax`
 abbrev pub IsReadInMode : ℕ → ParseMode → NumberReader → List ℕ → Result Decimal ParseError → Type 0

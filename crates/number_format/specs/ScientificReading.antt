@@ -1,7 +1,7 @@
 -- Numbers in scientific and engineering notation, such as `1.2E3`: which texts are read, and as what.
 use Rattle.std.specs.{Prelude.{◌≡◌, ◌≢◌, ℕ, ◌+◌, ◌*◌, ◌%◌, ◌^◌, ◌<◌, ◌⊎◌, ◌==◌, nat_lt, min, max, Bool, false, true, ◌||◌, if◌then◌else◌, List, [], ◌++◌, length, get_or, ℤ, pos, negsuc, ◌+ℤ◌, ◌-ℤ◌, unsigned_abs, Option, Some, None, Result, Ok, Err}, Int.{int_max, int_min, Digits.{AllBelowBase, number_from_digits}}}
 use Rattle.decimal_digits.specs.Number.{size, first}
-use Rattle.decimal_unsigned.specs.{Unsigned.Unsigned, declared.error.ParseError.{ParseError, TheVariants.{Syntax, Limit, Memory}}}
+use Rattle.decimal_unsigned.specs.{Unsigned.{Unsigned, IsValue}, declared.error.ParseError.{ParseError, TheVariants.{Syntax, Limit, Memory}}}
 use Rattle.fixed_decimal.specs.{Decimal.Decimal, declared.variations.Sign.Sign}
 use Rattle.decimal_format.specs.{declared.grouping.GroupingStrategy.{GroupingStrategy, TheVariants.Never}, Formatted.absolute_text, Readable.{BeginsWith, BeginsWithDigit, code}, Reading.{Numeral, IsNumeral, digits_text, fraction_text}, Scanning.value_of, Symbols.{Symbols, sign_affixes}}
 use Rattle.number_format.specs.{declared.{format.formatter.NumberFormatter.NumberFormatter, options.{ExponentOptions.ExponentOptions, ExponentSign.ExponentSign, NumberNotation.NumberNotation}, notation.Notation.{Notation, TheVariants.{Scientific, Engineering}}, read.scientific.{ExponentForm.ExponentForm, exponent.Exponent.Exponent, scan.Scan.Scan}}, AffixedTexts.shifted, NumberText.{exponent_sign, shown_exponent}, Scaled.exponent_at}
@@ -194,3 +194,12 @@ pub record IsSplit (s : Symbols) (f : ExponentForm) (bytes front : List ℕ) (nu
   pub number_is : number ≡ capped_exponent (exponent_number sign digits)
   pub notation : (w : Numeral) → IsNumeral s front w → IsInNotation (step_of f) (number_from_digits 10 w.whole)
       (number_from_digits 10 w.fraction) (exponent_number sign digits)
+
+-- the text is that of a numeral with this significand and this exponent
+pub record HasParts (s : Symbols) (f : ExponentForm) (bytes : List ℕ) (significand : Decimal) (exponent : ℤ)
+    : Type 0 where
+  pub valid : IsValue significand.absolute
+  pub numeral : ScientificNumeral
+  pub text : IsScientificNumeral s f bytes numeral
+  pub significand_is : numeral_value numeral.significand ≡ Ok significand
+  pub exponent_is : exponent ≡ capped_exponent (exponent_of numeral)

@@ -3,7 +3,7 @@ pub(crate) mod affixes;
 pub(crate) mod compact;
 pub(crate) mod currency;
 pub(crate) mod default_digits;
-mod exponent;
+pub(crate) mod exponent;
 pub(crate) mod format_number;
 pub(crate) mod formatted_number;
 pub(crate) mod formatter;

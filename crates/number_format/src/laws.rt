@@ -3,7 +3,7 @@ ghost use Rattle.std.specs.{Prelude.{◌≡◌, ◌≢◌, ◌*◌, ◌^◌, ◌
 ghost use Rattle.decimal_unsigned.specs.Unsigned.{Unsigned, IsValue};
 ghost use Rattle.fixed_decimal.specs.Decimal.{Decimal, with_sign_display};
 ghost use Rattle.decimal_format.specs.{Formatted.formatted, Readable.IsReadable, Symbols.{Symbols, sign_affixes}};
-ghost use Rattle.number_format.specs.{declared.read.{pattern.NumberPattern.NumberPattern, scientific.ExponentForm.ExponentForm}, FormattedNumbers.{hides_zero_of, number_text}, AffixedTexts.{Reader, AreNamed, between, IsWritten, IsShown, shifted, IsReadExactly}, Formatters.{plain_options, IsFormatterBy, IsFormatterAt, IsFormatter}, CompactReading.{IsReadInWords, IsSaid}, NumberReading.{IsStandard, words_of, reader_of, CanRead, IsShownAs}, NumberText.IsNumberText, ScientificReading.{CanReadExponent, exponent_form, HasExponentOf, notation_of, scientific_text, IsReadScientific}, AffixedExponents.IsReadWithExponent, ShownDigits.{rounded_with, applied, IsFractional, KeepsDigits}, Scaled.{KeepsExponent, KeepsValueOf}};
+ghost use Rattle.number_format.specs.{declared.read.{pattern.NumberPattern.NumberPattern, scientific.ExponentForm.ExponentForm}, FormattedNumbers.{hides_zero_of, number_text}, AffixedTexts.{Reader, AreNamed, between, IsWritten, IsShown, shifted, IsReadExactly}, Formatters.{plain_options, IsFormatterBy, IsFormatterAt, IsFormatter}, CompactReading.{IsReadInWords, IsSaid}, NumberReading.{IsStandard, words_of, reader_of, CanRead, IsReadOrSaid, IsShownAs}, NumberText.IsNumberText, ScientificReading.{CanReadExponent, exponent_form, HasExponentOf, notation_of, scientific_text, IsReadScientific}, AffixedExponents.{IsReadWithExponent, IsOfExponent}, ShownDigits.{rounded_with, applied, IsFractional, KeepsDigits}, Scaled.{KeepsExponent, KeepsValueOf}, WholeUnits.IsSaidOf};
 
 use crate::digits::options::DigitOptions;
 use crate::digits::ranges::FractionDigits;
@@ -90,19 +90,23 @@ pub fn scaled_texts_read_back()
 {}
 
 /// What a formatter writes of a value in standard notation is read back by its reader as the number that is shown,
-/// rounded and with the sign that is written, with the scale undone.
+/// rounded and with the sign that is written, with the scale undone. A text of a unit without a number, as `يومان` for
+/// two days in Arabic, is written of `2` and of `2.00`, and read as `2`.
 pub fn formatted_texts_read_back()
     ensures { (inline : ℕ) (f : NumberFormatter) (v u : Decimal) (text : List ℕ) (result : Result Decimal ParseError)
         → IsStandard f → CanRead f → IsValue v.absolute → IsNumberText f v text → IsShownAs f v u
-        → IsReadExactly inline (reader_of f) text result
-        → (result ≡ shifted (reader_of f).shift (Ok u)) ⊎ (result ≡ Err ParseError.Memory) }
+        → IsReadOrSaid inline f.outer (reader_of f) text result
+        → (w : Decimal) × IsSaidOf f.outer text u w
+        × ((result ≡ shifted (reader_of f).shift (Ok w)) ⊎ (result ≡ Err ParseError.Memory)) }
 {}
 
-/// Of a formatter in standard notation whose texts are read two numbers that are shown have different texts.
+/// Of a formatter in standard notation whose texts are read two numbers that are shown have different texts, except 1
+/// or 2 with other zeros if its text has no number.
 pub fn formatted_texts_are_unique()
     ensures { (f : NumberFormatter) (v w x y : Decimal) (text : List ℕ) → IsStandard f → CanRead f
         → IsValue v.absolute → IsValue w.absolute → IsNumberText f v text → IsNumberText f w text
-        → IsShownAs f v x → IsShownAs f w y → x ≡ y }
+        → IsShownAs f v x → IsShownAs f w y
+        → (z : Decimal) × IsSaidOf f.outer text x z × IsSaidOf f.outer text y z }
 {}
 
 /// A formatter by options with the notation `Standard` writes no words and no exponent, as reading needs it.
@@ -121,11 +125,11 @@ pub fn scientific_texts_read_back()
 {}
 
 /// The same between the texts of a pattern reads as that number with the sign of the pattern, times 10^shift:
-/// `-1.20E3%` as -12.00.
+/// `-1.20E3%` as -12.00. If the pattern is of a plural category, it is that of the significand with the exponent.
 pub fn affixed_exponents_read_back()
     ensures { (inline : ℕ) (r : Reader) (f : ExponentForm) (g : GroupingStrategy) (p : NumberPattern) (v : Unsigned)
         (e : ℤ) (result : Result Decimal ParseError) → Contains r.patterns p → CanReadExponent r.symbols f → IsValue v
-        → unsigned_abs e < 2 ^ 32 → HasExponentOf (notation_of f) v.number e
+        → unsigned_abs e < 2 ^ 32 → HasExponentOf (notation_of f) v.number e → IsOfExponent r.rules v e p
         → IsReadWithExponent inline r f (between p (scientific_text r.symbols f g v e)) result
         → (result ≡ shifted r.shift (shifted e (Ok (record { sign = p.sign; absolute = v }))))
         ⊎ (result ≡ Err ParseError.Memory) }

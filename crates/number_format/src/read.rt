@@ -7,3 +7,4 @@ pub(crate) mod number_reader;
 mod owned_affixes;
 pub(crate) mod pattern;
 mod scientific;
+mod unit_texts;

@@ -1,12 +1,12 @@
 -- The options of the stems of skeletons.
-use Rattle.std.specs.{Prelude.{ℕ, ◌+◌, ◌==◌, nat_lt, nat_le, nat_eq, Bool, ◌||◌, ◌&&◌, not, if◌then◌else◌, List, [], ◌∷◌, length, drop, slice_index, find, is_none, codes, Option, Some, None, Result, Ok, Err}, List.starts_with, Option.{option_map, option_and_then}}
+use Rattle.std.specs.{Prelude.{ℕ, ◌+◌, ◌==◌, nat_lt, nat_le, nat_eq, Bool, ◌||◌, ◌&&◌, not, if◌then◌else◌, List, [], ◌∷◌, length, drop, slice_index, find, is_none, codes, Option, Some, None}, List.starts_with, Option.{option_map, option_and_then}}
 use Rattle.fixed_decimal.specs.declared.variations.SignDisplay.TheVariants as display
-use Rattle.locale_names.specs.{declared.unit_id.UnitError.UnitError, Units.Indices}
+use Rattle.locale_names.specs.Units.{Indices}
 use Rattle.locale_data.specs.declared.{currency.CurrencySign.TheVariants.Standard, tables.symbols.TheConstants.NUMBERING_SYSTEMS}
 use Rattle.number_format.specs.declared.{options.ExponentSign.ExponentSign, digits.{precision.Minimum.Minimum, settings.RoundingPriority.{RoundingPriority, TheVariants.{MorePrecision, LessPrecision}}}}
 use Rattle.number_format.specs.declared.options.ExponentSign.TheVariants as sign
 use Rattle.number_format.specs.declared.digits.precision.Minimum.TheVariants as minimum
-use Rattle.number_skeleton.specs.{declared.{choices.{Choice.Choice, ChosenUnit.ChosenUnit, Exponent.Exponent}, counts.Counts.Counts, meaning.{Expected.Expected, Meaning.Meaning}}, Counts.{run, is_byte, is_wild}, Decimal.decimal, Identifiers.is_identifier, Units.{hundredth, units_named, without_person, measured, measured_unit}, Words.{is_name, named, is_algorithmic}}
+use Rattle.number_skeleton.specs.{declared.{choices.{Choice.Choice, ChosenUnit.ChosenUnit, Exponent.Exponent}, counts.Counts.Counts, meaning.{Expected.Expected, Meaning.Meaning}}, Counts.{run, is_byte, is_wild}, Decimal.decimal, Identifiers.is_identifier, Units.{hundredth, units_named, measured, measured_unit}, Words.{is_name, named, is_algorithmic}}
 use Rattle.number_skeleton.specs.declared.choices.Choice.TheVariants as choice
 use Rattle.number_skeleton.specs.declared.choices.ChosenNotation.TheVariants as notation
 use Rattle.number_skeleton.specs.declared.choices.ChosenPerUnit.TheVariants as per
@@ -60,13 +60,13 @@ currency_option text =
 
 -- ---- Units.
 -- the units that a text names, or a unit of ICU that this library does not have
-abbrev pub units_of : List ℕ → Result Indices UnitError → Option ChosenUnit
-units_of text (Ok units) = Some (unit.Units units)
-units_of text (Err e) = if is_identifier text then Some unit.Other else None
+abbrev pub units_of : List ℕ → Option Indices → Option ChosenUnit
+units_of text (Some units) = Some (unit.Units units)
+units_of text None = if is_identifier text then Some unit.Other else None
 
 abbrev pub unit_of : List ℕ → Option ChosenUnit → Option ChosenUnit
 unit_of text (Some hundredth) = Some hundredth
-unit_of text None = units_of text (units_named (without_person text))
+unit_of text None = units_of text (units_named text)
 
 -- `meter`, or two units: `gram-per-second`
 abbrev pub unit_option : List ℕ → Option Meaning

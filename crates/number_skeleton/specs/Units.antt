@@ -1,6 +1,6 @@
 -- Units in skeletons: by their identifiers, or by their types too.
-use Rattle.std.specs.{Prelude.{ℕ, ◌+◌, ◌-◌, ◌==◌, nat_lt, Bool, ◌&&◌, if◌then◌else◌, nat_eq, List, [], ◌∷◌, map, length, take, drop, slice_index, slice_get, codes, Option, Some, None, unwrap_or, Result}, List.{list_any, position_from, starts_with}, Option.{option_map_or}, Str.bytes_eq}
-use Rattle.locale_names.specs.{declared.{tables.{rows.units.UnitRow.UnitRow, units.TheConstants.UNITS}, unit_id.UnitError.UnitError}, Texts.{short_text, text_or_nothing}, Units.{Indices, unit_index, named, is_compound}}
+use Rattle.std.specs.{Prelude.{ℕ, ◌+◌, ◌-◌, ◌==◌, nat_lt, Bool, ◌&&◌, if◌then◌else◌, nat_eq, List, [], ◌∷◌, map, length, take, drop, slice_index, slice_get, codes, Option, Some, None, unwrap_or}, List.{list_any, position_from, starts_with}, Option.{option_and_then, option_map_or}, Str.bytes_eq}
+use Rattle.locale_names.specs.{declared.tables.{rows.units.UnitRow.UnitRow, units.TheConstants.UNITS}, Texts.{short_text, text_or_nothing}, Units.{Indices, unit_index, split_per, is_compound}}
 use Rattle.number_skeleton.specs.{declared.choices.ChosenUnit.{ChosenUnit, TheVariants.{Percent, Permille, Units}}, Counts.run, Words.{is_name, padded}}
 
 -- ---- The units of CLDR, and their texts.
@@ -11,12 +11,12 @@ unit_at index = if nat_lt index (length UNITS) then Some index else None
 unfoldable pub index_named : List ℕ → Option ℕ
 index_named name = unit_index name
 
--- the unit that bytes name, or two units with `-per-` between them
-unfoldable pub units_named : List ℕ → Result Indices UnitError
-units_named bytes = named (text_or_nothing bytes)
-
 abbrev pub name_of : UnitRow → List ℕ
 name_of row = short_text row.name
+
+-- an index is that of two units
+unfoldable pub is_two : ℕ → Bool
+is_two index = is_compound index
 
 -- the identifier of the unit with an index
 unfoldable pub name_at : ℕ → List ℕ
@@ -40,6 +40,24 @@ is_person text = list_any (λ name. is_name name text) person_units
 unfoldable pub without_person : List ℕ → List ℕ
 without_person text = if is_person text then take (length text - 7) text else text
 
+-- the unit that bytes name: that of `day` for `day-person`
+unfoldable pub bytes_named : List ℕ → Option ℕ
+bytes_named bytes = index_named (text_or_nothing (without_person bytes))
+
+-- two units, of which the second is not two
+abbrev pub two_units : Option ℕ → Option ℕ → Option Indices
+two_units None second = None
+two_units (Some first) None = None
+two_units (Some first) (Some second) = if is_two second then None else Some (first, Some second)
+
+-- the unit that bytes name, or two units with `-per-` between them
+abbrev pub units_by : Option ℕ → Option (List ℕ × List ℕ) → Option Indices
+units_by (Some index) parts = Some (index, None)
+units_by None parts = option_and_then (λ p. two_units (bytes_named p.0) (bytes_named p.1)) parts
+
+unfoldable pub units_named : List ℕ → Option Indices
+units_named bytes = units_by (bytes_named bytes) (split_per bytes)
+
 -- percent and permille are units that have patterns of their own
 unfoldable pub hundredth : List ℕ → Option ChosenUnit
 hundredth text =
@@ -56,7 +74,7 @@ unfoldable pub measured : List ℕ → Option ℕ
 measured text =
     let kind = run 97 122 text in
     if slice_index text kind == 45
-    then of_type (take kind text) (index_named (text_or_nothing (without_person (drop (kind + 1) text))))
+    then of_type (take kind text) (bytes_named (drop (kind + 1) text))
     else None
 
 unfoldable pub measured_unit : ℕ → ChosenUnit
@@ -71,10 +89,6 @@ is_joined first second name =
 
 unfoldable pub index_joined : List ℕ → List ℕ → List UnitRow → ℕ → Option ℕ
 index_joined first second units from = position_from (λ row. is_joined first second (name_of row)) from units
-
--- an index is that of two units
-unfoldable pub is_two : ℕ → Bool
-is_two index = is_compound index
 
 -- two units are one if `-per-` between them makes the identifier of one
 unfoldable pub joined : ℕ → ℕ → Indices

@@ -1,6 +1,5 @@
 //! The options of stems.
 ghost use Rattle.std.specs.Prelude.{◌≡◌};
-ghost use Rattle.locale_names.specs.Units.{indices_of};
 ghost use Rattle.number_skeleton.specs.Options.{last, chosen_exponent_sign, sign_option, changed_exponent, exponent_option, is_code_byte, currency_option, unit_option, is_currency, measure_option, per_option, integer_option, decimal_system, system_option, scale_option, increment_option, both, strip_option, significant_option, option};
 
 use crate::choices::{
@@ -10,11 +9,10 @@ use crate::counts::{Counts, after, byte_at, is_byte, is_wild, run};
 use crate::decimal::read_decimal;
 use crate::identifiers::is_identifier;
 use crate::meaning::{Expected, Meaning};
-use crate::units::{hundredth, measured, measured_unit, units_named, without_person};
+use crate::units::{hundredth, measured, measured_unit, units_named};
 use crate::words::{is_algorithmic, is_name, named};
 use fixed_decimal::SignDisplay;
 use locale_data::{CurrencySign, NUMBERING_SYSTEMS, Name};
-use locale_names::Unit;
 use number_format::RoundingPriority::{self, LessPrecision, MorePrecision};
 use number_format::{ExponentSign, Minimum};
 
@@ -88,25 +86,16 @@ fn currency_option(text: &[u8]) -> Option<Meaning>
     last(Choice::Unit(ChosenUnit::Currency([first, second, third])))
 }
 
-fn indices(unit: Unit) -> (u8, Option<u8>)
-    ensures { result ≡ indices_of unit }
-{
-    match unit.per {
-        Some(per) => (unit.unit.index(), Some(per.index())),
-        None => (unit.unit.index(), None),
-    }
-}
-
 fn unit_option(text: &[u8]) -> Option<Meaning>
     ensures { result ≡ unit_option text.now }
 {
     if let Some(unit) = hundredth(text) {
         return last(Choice::Unit(unit));
     }
-    match units_named(without_person(text)) {
-        Ok(unit) => last(Choice::Unit(ChosenUnit::Units(indices(unit)))),
-        Err(_) if is_identifier(text) => last(Choice::Unit(ChosenUnit::Other)),
-        Err(_) => None,
+    match units_named(text) {
+        Some(units) => last(Choice::Unit(ChosenUnit::Units(units))),
+        None if is_identifier(text) => last(Choice::Unit(ChosenUnit::Other)),
+        None => None,
     }
 }
 

@@ -1,13 +1,13 @@
 //! Units in skeletons: by their identifiers, or by their types too.
-ghost use Rattle.std.specs.{Prelude.{◌≡◌, Some}, Option.option_map, Result.result_map_both};
+ghost use Rattle.std.specs.{Prelude.{◌≡◌, Some}, Option.option_map};
 ghost use Rattle.locale_names.specs.{Texts.text_or_nothing, Units.{index_of, indices_of}, declared.tables.units.TheConstants.UNITS};
-ghost use Rattle.number_skeleton.specs.Units.{unit_at, index_named, units_named, is_two, name_at, type_at, of_type, is_person, without_person, hundredth, measured, measured_unit, is_joined, index_joined, joined};
+ghost use Rattle.number_skeleton.specs.Units.{unit_at, index_named, is_two, name_at, type_at, of_type, is_person, without_person, bytes_named, two_units, units_named, hundredth, measured, measured_unit, is_joined, index_joined, joined};
 
 use crate::choices::ChosenUnit;
 use crate::counts::{after, before, byte_at, run};
 use crate::words::is_name;
 use locale_data::Name;
-use locale_names::{Unit, UnitError, UnitId};
+use locale_names::{Unit, UnitId, split_per};
 use std::str;
 
 /// The units of people's ages, which have the texts of the units of time.
@@ -41,15 +41,10 @@ pub(crate) fn unit_at(index: u8) -> Option<UnitId>
 pub(crate) fn unit_named(name: &str) -> Option<UnitId>
     ensures { option_map index_of result ≡ index_named name.now }
 {
-    UnitId::try_from_str(name)
-}
-
-/// Returns the units that bytes name.
-#[tactic(auto, unfolding(crate::specs::Units::units_named))]
-pub(crate) fn units_named(bytes: &[u8]) -> Result<Unit, UnitError>
-    ensures { result_map_both indices_of (λ e. e) result ≡ units_named bytes.now }
-{
-    Unit::try_from_str(text_of(bytes))
+    match UnitId::try_from_str(name) {
+        Ok(unit) => Some(unit),
+        Err(_) => None,
+    }
 }
 
 /// Returns whether the identifier of a unit has `-per-`.
@@ -84,7 +79,7 @@ fn is_person(text: &[u8]) -> bool
 
 /// Returns `day` of `day-person`.
 #[tactic(auto, unfolding(crate::specs::Units::without_person))]
-pub(crate) fn without_person(text: &[u8]) -> &[u8]
+fn without_person(text: &[u8]) -> &[u8]
     ensures { result.now ≡ without_person text.now }
 {
     if is_person(text) {
@@ -92,6 +87,38 @@ pub(crate) fn without_person(text: &[u8]) -> &[u8]
     } else {
         text
     }
+}
+
+/// Returns the unit that bytes name: that of `day` for `day-person`.
+#[tactic(auto, unfolding(crate::specs::Units::bytes_named))]
+fn bytes_named(bytes: &[u8]) -> Option<UnitId>
+    ensures { option_map index_of result ≡ bytes_named bytes.now }
+{
+    unit_named(text_of(without_person(bytes)))
+}
+
+/// Returns the indices of two units, of which the second is not two.
+fn two_units(first: &[u8], second: &[u8]) -> Option<(u8, Option<u8>)>
+    ensures { result ≡ two_units (bytes_named first.now) (bytes_named second.now) }
+{
+    let first = bytes_named(first)?;
+    let second = bytes_named(second)?;
+    if is_two(second) {
+        return None;
+    }
+    Some((first.index(), Some(second.index())))
+}
+
+/// Returns the indices of the unit that bytes name, or of two units with `-per-` between them.
+#[tactic(auto, unfolding(crate::specs::Units::units_named))]
+pub(crate) fn units_named(bytes: &[u8]) -> Option<(u8, Option<u8>)>
+    ensures { result ≡ units_named bytes.now }
+{
+    if let Some(unit) = bytes_named(bytes) {
+        return Some((unit.index(), None));
+    }
+    let (first, second) = split_per(bytes)?;
+    two_units(first, second)
 }
 
 /// Returns percent or permille, if a text is one of them.
@@ -127,7 +154,7 @@ pub(crate) fn measured(text: &[u8]) -> Option<UnitId>
     if byte_at(text, kind) != b'-' {
         return None;
     }
-    match unit_named(text_of(without_person(after(text, kind + 1)))) {
+    match bytes_named(after(text, kind + 1)) {
         Some(unit) => of_type(before(text, kind), unit),
         None => None,
     }

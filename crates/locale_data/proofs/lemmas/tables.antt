@@ -5,5 +5,5 @@ pub mod FormatRows
 pub mod CurrencyRows
 pub mod CompactRows
 pub mod RulesTexts
-pub mod OneAlone
+pub mod HeldAlone
 pub mod RangeRows

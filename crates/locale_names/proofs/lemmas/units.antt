@@ -1,1 +1,2 @@
 pub mod PerTexts
+pub mod SortedUnits

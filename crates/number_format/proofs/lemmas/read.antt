@@ -2,6 +2,8 @@ pub mod NamedAffixes
 pub mod AffixedNumbers
 pub mod ReadBack
 pub mod FormatterTexts
+pub mod SaidNumbers
+pub mod WholeUnits
 pub mod ShownValues
 pub mod ScientificScans
 pub mod ScientificExponents
@@ -12,6 +14,8 @@ pub mod ScientificShown
 pub mod ScientificBodies
 pub mod ScientificAffixes
 pub mod ScientificUnique
+pub mod ScientificParts
+pub mod OwnExponents
 pub mod FormattedExponents
 pub mod PatternLists
 pub mod CompactKeys

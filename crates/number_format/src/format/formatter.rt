@@ -5,7 +5,7 @@ ghost use Rattle.locale_data.specs.Plurals.{rules_text_at};
 use crate::digits::options::DigitOptions;
 use crate::format::affixes::StyleTexts;
 use crate::format::compact::{CompactChoice, NO_CHOICE, compact_magnitude, is_one};
-use crate::format::exponent::{exponent_operand, exponent_shift};
+use crate::format::exponent::category_with;
 use crate::format::ids::{FormatterIds, NumberFormatError, currency_by};
 use crate::format::outer::{OuterAround, OuterTexts};
 use crate::format::style::{
@@ -367,17 +367,10 @@ impl NumberFormatter {
     fn category_with(&self, significand: &mut Decimal, exponent: i32) -> PluralCategory
         ensures { IsCategoryAt self.now.rules (operands_with significand.old.absolute exponent) result }
     {
-        // Proof hint: the value satisfies its invariant.
-        let _range = significand.absolute.magnitude_range();
-        let Some(shift) = exponent_shift(exponent) else {
-            return self.category(&PluralOperands::of_decimal(significand));
-        };
-        match significand.absolute.multiply_pow10(shift) {
-            Ok(()) => {
-                let power = exponent_operand(exponent);
-                self.category(&PluralOperands::of_scaled(&significand.absolute, power))
-            }
-            Err(_) => self.category(&PluralOperands::of_decimal(significand)),
+        match category_with(self.rules, &mut significand.absolute, exponent) {
+            Some(category) => category,
+            // The rules of a formatter are listed.
+            None => PluralCategory::Other,
         }
     }
 

@@ -2,13 +2,14 @@
 ghost use Rattle.std.specs.{Prelude.{◌≡◌, ◌≢◌, ℕ, List, ◌++◌, MatchOption, IfOk, IfErr, IsSome, None, Ok, Err}};
 ghost use Rattle.decimal_format.specs.{Readable.IsReadable, Reading.IsRead};
 ghost use Rattle.locale_data.specs.Plurals.{IsCategoryAt, rules_text_at};
-ghost use Rattle.number_format.specs.{AffixedTexts.{AreNamed, Allows, shifted, IsWritten, IsWrittenBy, IsNumeral, IsBetween, IsSplit, IsOwn, IsReadShown, IsReadExactly, IsReadWith, IsReadTyped}, ScientificReading.IsSeparatorApart, AffixedExponents.{IsReadShownExponent, IsReadWithExponent, IsTypedWithExponent}};
+ghost use Rattle.number_format.specs.{AffixedTexts.{AreNamed, Allows, shifted, IsWritten, IsWrittenBy, IsNumeral, IsBetween, IsSplit, IsOwn, IsReadShown, IsReadExactly, IsReadWith, IsReadTyped}, ScientificReading.{IsSeparatorApart, HasParts}, NumberText.operands_with, AffixedExponents.{IsReadShownExponent, IsReadWithExponent, IsTypedWithExponent}};
 ghost use Rattle.number_format.specs.declared.read.pattern.NumberPattern.{NumberPattern};
 ghost use Rattle.plural_rules.specs.Operands.{plain};
 
+use crate::format::exponent::category_with;
 use crate::read::cut::cut_affixes;
 use crate::read::pattern::NumberPattern;
-use crate::read::scientific::ExponentForm;
+use crate::read::scientific::{ExponentForm, times_power};
 use decimal_format::DecimalSymbols;
 use decimal_format::internal::{
     Alternative, begins_with_digit, ends_with_digit, read_alternatives,
@@ -256,6 +257,88 @@ impl<'a> AffixReader<'a> {
         self.undo_scale(self.read_shown(alloc, text))
     }
 
+    fn category_with<D: DigitStore>(
+        &self,
+        significand: &mut UnsignedOver<D>,
+        exponent: i32,
+    ) -> PluralCategory
+        ensures { IsCategoryAt self.now.rules (operands_with significand.old exponent) result }
+    {
+        match category_with(self.rules, significand, exponent) {
+            Some(category) => category,
+            // The rules of a reader are listed.
+            None => PluralCategory::Other,
+        }
+    }
+
+    fn own_exponent<D: DigitStore>(
+        &self,
+        form: &ExponentForm<'_>,
+        pattern: &NumberPattern,
+        middle: &[u8],
+        significand: Signed<UnsignedOver<D>>,
+        exponent: i32,
+        text: &[u8],
+    ) -> Result<Signed<UnsignedOver<D>>, ParseError>
+        requires separator { IsSeparatorApart self.now.symbols form.now.separator.now }
+        requires split { IsSplit self.now.symbols self.now.patterns None text.now pattern.now middle.now }
+        requires parts { HasParts self.now.symbols form.now middle.now significand exponent }
+        ensures { IsReadShownExponent D.L self.now form.now text.now result }
+    {
+        let symbols = &self.symbols;
+        let Ok(mut copy) = significand.clone() else {
+            return Err(ParseError::Memory);
+        };
+        let value = match times_power(significand, exponent) {
+            Ok(value) => value,
+            Err(error) => return Err(error),
+        };
+        let category = Some(self.category_with(&mut copy.absolute, exponent));
+        let Some(_) = split(symbols, self.patterns.as_slice(), category, text) else {
+            return Err(ParseError::Syntax);
+        };
+        Ok(value.with_sign(pattern.sign))
+    }
+
+    fn read_own_exponent<D: DigitStore>(
+        &self,
+        form: &ExponentForm<'_>,
+        alloc: Global,
+        pattern: &NumberPattern,
+        middle: &[u8],
+        text: &[u8],
+    ) -> Result<Signed<UnsignedOver<D>>, ParseError>
+        requires separator { IsSeparatorApart self.now.symbols form.now.separator.now }
+        requires split { IsSplit self.now.symbols self.now.patterns None text.now pattern.now middle.now }
+        ensures { IsReadShownExponent D.L self.now form.now text.now result }
+    {
+        match form.read_parts(&self.symbols, alloc, middle) {
+            Ok((significand, exponent)) => {
+                self.own_exponent(form, pattern, middle, significand, exponent, text)
+            }
+            Err(error) => Err(error),
+        }
+    }
+
+    fn read_exponent<D: DigitStore>(
+        &self,
+        form: &ExponentForm<'_>,
+        alloc: Global,
+        pattern: &NumberPattern,
+        middle: &[u8],
+        text: &[u8],
+    ) -> Result<Signed<UnsignedOver<D>>, ParseError>
+        requires separator { IsSeparatorApart self.now.symbols form.now.separator.now }
+        requires split { IsSplit self.now.symbols self.now.patterns None text.now pattern.now middle.now }
+        requires category { pattern.now.category ≡ None }
+        ensures { IsReadShownExponent D.L self.now form.now text.now result }
+    {
+        match form.read(&self.symbols, alloc, middle) {
+            Ok(shown) => Ok(shown.with_sign(pattern.sign)),
+            Err(error) => Err(error),
+        }
+    }
+
     fn read_shown_exponent<D: DigitStore>(
         &self,
         form: &ExponentForm<'_>,
@@ -269,9 +352,9 @@ impl<'a> AffixReader<'a> {
         else {
             return Err(ParseError::Syntax);
         };
-        match form.read(&self.symbols, alloc, middle) {
-            Ok(shown) => Ok(shown.with_sign(pattern.sign)),
-            Err(error) => Err(error),
+        match pattern.category {
+            None => self.read_exponent(form, alloc, pattern, middle, text),
+            Some(_) => self.read_own_exponent(form, alloc, pattern, middle, text),
         }
     }
 

@@ -1,7 +1,7 @@
 //! Whether the texts around numbers can be told apart.
 ghost use Rattle.std.specs.Prelude.{◌≡◌, ◌↔◌, ◌⊎◌, IsTrue, All, map};
 ghost use Rattle.decimal_format.specs.{Readable.IsReadable, Symbols.affixes};
-ghost use Rattle.number_format.specs.{AffixedTexts.{ArePrefixesApart, AreSuffixesApart, ArePairApart, AreToldApart, AreNamed}, NumberReading.pattern_at};
+ghost use Rattle.number_format.specs.{AffixedTexts.{ArePrefixesApart, AreSuffixesApart, ArePairApart, AreToldApart, AreNamed}, NumberReading.number_pattern};
 
 use crate::format::formatter::NumberFormatter;
 use crate::read::pattern::{NumberPattern, PatternKey};
@@ -114,8 +114,8 @@ pub(crate) fn are_named(symbols: &DecimalSymbols<'_>, patterns: &[NumberPattern]
 impl NumberFormatter {
     fn is_key_apart(&self, key: PatternKey, keys: &[PatternKey]) -> bool
         requires { IsReadable self.now.style.symbols }
-        ensures { IsTrue result ↔ All (λ k. AreToldApart self.now.style.symbols (pattern_at self.now key)
-            (pattern_at self.now k)) keys.now }
+        ensures { IsTrue result ↔ All (λ k. AreToldApart self.now.style.symbols (number_pattern self.now key)
+            (number_pattern self.now k)) keys.now }
     {
         let symbols = &self.style.symbols;
         let texts = self.pattern_texts(key);
@@ -137,7 +137,7 @@ impl NumberFormatter {
     /// Returns whether each two patterns are told apart. It does not allocate, and is slow.
     pub(crate) fn are_keys_apart(&self, keys: &[PatternKey]) -> bool
         requires { IsReadable self.now.style.symbols }
-        ensures { IsTrue result ↔ AreNamed self.now.style.symbols (map (pattern_at self.now) keys.now) }
+        ensures { IsTrue result ↔ AreNamed self.now.style.symbols (map (number_pattern self.now) keys.now) }
     {
         for key in keys {
             if !self.is_key_apart(*key, keys) {

@@ -1,12 +1,12 @@
 //! Reading of numbers in compact notation.
 ghost use Rattle.std.specs.Prelude.{◌≡◌, ◌↔◌, ◌≤ℤ◌, ◌-ℤ◌, pos, Ok, IsTrue, true, false};
 ghost use Rattle.decimal_format.specs.{Readable.IsReadable};
-ghost use Rattle.number_format.specs.{AffixedTexts.{AreNamed, shifted}, CompactReading.{word_pattern, magnitude_by, HasCompactExponents, HasTextsOf, IsOwnPattern, IsOwnOr, IsReadByNumber, IsReadShownInWords, IsReadInAnyWords, IsReadOrAny, IsReadInWords, AreWordPatterns}, Scaled.IsOrdered, TypedWords.IsTypedInWords};
+ghost use Rattle.number_format.specs.{AffixedTexts.{AreNamed, shifted}, CompactReading.{word_pattern, magnitude_by, HasCompactExponents, HasTextsOf, HidesSigns, IsOwnPattern, IsOwnOr, IsReadByNumber, IsReadShownInWords, IsReadInAnyWords, IsReadOrAny, IsReadInWords, AreWordPatterns}, Scaled.IsOrdered, TypedWords.IsTypedInWords};
 
 mod apart;
 mod keys;
 mod typed;
-mod whole;
+pub(crate) mod whole;
 mod words;
 
 use crate::format::compact::{compact_power, is_unit, undivided_magnitude};
@@ -18,7 +18,7 @@ use crate::read::compact::keys::{CompactKey, category_at};
 use crate::read::compact::whole::find_whole;
 use crate::read::pattern::NumberPattern;
 use decimal_format::internal::Alternative;
-use fixed_decimal::{DigitStore, ParseError, Signed, UnsignedOver};
+use fixed_decimal::{DigitStore, ParseError, SignDisplay, Signed, UnsignedOver};
 use locale_data::CompactStyle;
 use plural_rules::PluralCategory;
 use std::alloc::Global;
@@ -66,6 +66,12 @@ fn times<D: DigitStore>(
     ensures { result ≡ shifted pattern.now.exponent (Ok value) }
 {
     shifted(Ok(value), pattern.exponent as i16)
+}
+
+fn hides_signs(formatter: &NumberFormatter) -> bool
+    ensures { IsTrue result ↔ HidesSigns formatter.now }
+{
+    matches!(formatter.options.sign_display, SignDisplay::Never)
 }
 
 fn are_ordered(exponents: &CompactExponents) -> bool
@@ -163,18 +169,18 @@ impl CompactReader {
         let key = CompactKey {
             magnitude,
             category: self.reader.category(value),
-            is_one: false,
+            is_one: is_unit(value),
             whole: PluralCategory::Other,
             sign: pattern.sign,
         };
         if self.has_texts_of(pattern, key) {
             return true;
         }
-        let singular = CompactKey {
-            is_one: true,
+        let of_negative = CompactKey {
+            is_one: false,
             ..key
         };
-        is_unit(value) && self.has_texts_of(pattern, singular)
+        hides_signs(&self.formatter) && self.has_texts_of(pattern, of_negative)
     }
 
     fn own<D: DigitStore>(

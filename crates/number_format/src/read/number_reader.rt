@@ -1,20 +1,21 @@
 //! Readers of what formatters write.
-ghost use Rattle.std.specs.Prelude.{◌≡◌, ◌↔◌, ◌≤◌, ◌⊎◌, IsTrue, Some, None, ◌∷◌, [], ◌++◌, ◌-ℤ◌, pos, length, take, map, flat_map, IfOk, IfErr, OnOk};
+ghost use Rattle.std.specs.Prelude.{◌≡◌, ◌↔◌, ◌≤◌, ◌⊎◌, IsTrue, Some, None, ◌∷◌, [], ◌++◌, ◌-ℤ◌, pos, Ok, length, take, map, flat_map, IfOk, IfErr, OnOk};
 ghost use Rattle.decimal_format.specs.Readable.{IsReadable};
-ghost use Rattle.number_format.specs.{AffixedTexts.AreNamed, NumberReading.{KeepsNotation, CanReadExponents, CanReadWords, CanReadOther, CanReadNotation, HasPlainDigits, AreOwnWordsNamed, words_of, word_formatter, CanRead, CanUndo, CannotRead, percent_name, names_by, form, form_of, form_of_pattern, forms_of_name, patterns_of, number_reader_of, typed_forms, IsReadBy, IsReadStrictly, IsTypedBy, IsReadLeniently, IsReadInMode}, Scaled.HasNoIncrement, ScientificReading.exponent_form};
+ghost use Rattle.number_format.specs.{AffixedTexts.{AreNamed, shifted, IsReadTyped}, NumberReading.{KeepsNotation, CanReadExponents, CanReadWords, CanReadOther, CanReadNotation, HasPlainDigits, AreOwnWordsNamed, words_of, word_formatter, CanRead, CanUndo, CannotRead, percent_name, names_by, form, form_of, form_of_pattern, forms_of_name, patterns_of, number_reader_of, typed_forms, IsReadOrSaid, IsReadBy, IsReadStrictly, IsTypedBy, IsReadLeniently, IsReadInMode}, Scaled.HasNoIncrement, ScientificReading.exponent_form, WholeUnits.{said, IsSaidOr}};
 
 use crate::digits::options::DigitOptions;
 use crate::digits::precision::Precision;
 use crate::format::formatter::NumberFormatter;
 use crate::format::fraction::needs_no_integer;
 use crate::format::outer::OuterTexts;
-use crate::options::{DecimalSeparatorDisplay, NumberNotation, NumberStyle};
+use crate::options::{DecimalSeparatorDisplay, NumberStyle};
 use crate::read::affix_reader::AffixReader;
 use crate::read::apart::are_named;
 use crate::read::compact::{CompactReader, has_compact_exponents};
 use crate::read::owned_affixes::OwnedAffixes;
 use crate::read::pattern::NumberPattern;
 use crate::read::scientific::ExponentForm;
+use crate::read::unit_texts::{is_standard, number_said};
 use decimal_format::Affixes;
 use decimal_format::internal::Alternative;
 use fixed_decimal::{DigitStore, ParseError, Sign, Signed, UnsignedOver};
@@ -32,14 +33,19 @@ pub enum NumberReaderError {
     /// - A decimal separator without fraction digits or without integer digits is written.
     /// - In another notation than standard numbers are rounded to multiples of an increment, or integer digits are cut
     ///   off.
-    /// - The notation is scientific or engineering, and a unit or the name of a currency is written; or the sign of the
-    ///   exponent is never written; or the text before the exponent begins with a digit or a separator, or one of these
-    ///   with it.
+    /// - The notation is scientific or engineering, and the sign of the exponent is never written; or the text before
+    ///   the exponent begins with a digit or a separator, or one of these with it.
     /// - The notation is compact, and a word is written without a number that is not of 1 alone. `mille` in French and
     ///   in Italian are of 1 alone: the one by its pattern, the other by its plural category. Such a word is read if it
     ///   has no digit, and no other sign or power of ten has the same text.
     Notation,
-    /// The unit has a text without a number for numbers of a plural category: in Arabic `يومان` is two days.
+    /// The unit has a text without a number for numbers of a plural category, and the text is not certain to say one
+    /// number.
+    ///
+    /// In Arabic `يومان` is two days, and -2 days unless no sign is ever written. Such a text is read in standard
+    /// notation with [`SignDisplay::Never`](fixed_decimal::SignDisplay::Never), as 1 of the category `one` and as 2 of
+    /// `two`. Then the category has no other number, the text has no digit, and it is not that of both categories. In
+    /// other notations no text without a number is read.
     NoNumber(PluralCategory),
     /// The scale is -32768, which no scale undoes.
     Scale,
@@ -180,30 +186,16 @@ fn keeps_notation(digits: &Option<DigitOptions>) -> bool
     }
 }
 
-fn is_alone(outer: &OuterTexts) -> bool
-    ensures { IsTrue result ↔ (outer.now ≡ OuterTexts.None) }
-{
-    matches!(outer, OuterTexts::None)
-}
-
 fn can_read_exponents(formatter: &NumberFormatter) -> bool
     ensures { IsTrue result ↔ CanReadExponents formatter.now
         (exponent_form formatter.now formatter.now.options.notation) }
 {
     match ExponentForm::of(formatter) {
         Some(form) => {
-            is_alone(&formatter.outer)
-                && keeps_notation(&formatter.digits)
-                && form.can_read(&formatter.style.symbols)
+            keeps_notation(&formatter.digits) && form.can_read(&formatter.style.symbols)
         }
         None => false,
     }
-}
-
-fn is_standard(notation: NumberNotation) -> bool
-    ensures { IsTrue result ↔ (notation ≡ NumberNotation.Standard) }
-{
-    matches!(notation, NumberNotation::Standard)
 }
 
 fn can_read_words_of(formatter: &NumberFormatter, style: CompactStyle) -> bool
@@ -275,6 +267,8 @@ fn shift(formatter: &NumberFormatter) -> Result<i16, NumberReaderError>
 ///
 /// The texts of a unit or of the name of a currency are read too: `3 Tage` of days in German is 3.
 pub struct NumberReader {
+    /// The texts of the unit, of which some may have no number.
+    units: OuterTexts,
     reader: AffixReader<'static>,
     /// How exponents are written, if the notation has them.
     exponent: Option<ExponentForm<'static>>,
@@ -287,6 +281,7 @@ pub struct NumberReader {
 impl Drop for NumberReader {
     fn drop(self) {
         let NumberReader {
+            units: _,
             reader,
             exponent: _,
             words,
@@ -305,6 +300,7 @@ impl Model for NumberReader {
     ghost Value = { NumberReader };
 
     ghost view = { λ s. record {
+      units = s.units;
       texts = s.reader;
       exponent = s.exponent;
       words = s.words;
@@ -402,6 +398,7 @@ impl NumberFormatter {
         let reader = AffixReader::new(self.style.symbols.copied(), patterns, self.rules, shift);
         let exponent = ExponentForm::of(self);
         Ok(NumberReader {
+            units: self.outer,
             reader,
             exponent,
             words,
@@ -422,16 +419,41 @@ impl NumberReader {
         alternatives
     }
 
+    fn said<D: DigitStore>(
+        &self,
+        alloc: Global,
+        number: u8,
+    ) -> Result<Signed<UnsignedOver<D>>, ParseError>
+        ensures { result ≡ shifted self.now.texts.shift (Ok (said number)) }
+    {
+        let value = UnsignedOver::from_u8(alloc, number);
+        let said = Signed::new(Sign::None, value);
+        self.reader.undo_scale(Ok(said))
+    }
+
+    fn read_standard<D: DigitStore>(
+        &self,
+        alloc: Global,
+        text: &[u8],
+    ) -> Result<Signed<UnsignedOver<D>>, ParseError>
+        ensures { IsReadOrSaid D.L self.now.units self.now.texts text.now result }
+    {
+        match number_said(&self.units, text) {
+            Some(number) => self.said(alloc, number),
+            None => self.reader.read(alloc, text),
+        }
+    }
+
     fn read_words<D: DigitStore>(
         &self,
         alloc: Global,
         text: &[u8],
     ) -> Result<Signed<UnsignedOver<D>>, ParseError>
-        ensures { IsReadBy D.L self.now.texts None self.now.words text.now result }
+        ensures { IsReadBy D.L self.now.units self.now.texts None self.now.words text.now result }
     {
         match &self.words {
             Some(words) => words.read(alloc, text),
-            None => self.reader.read(alloc, text),
+            None => self.read_standard(alloc, text),
         }
     }
 
@@ -439,10 +461,12 @@ impl NumberReader {
     /// and scale 2 `12.5%` is 0.125.
     ///
     /// The number may have all grouping separators, or none. Around it are the texts of its plural category: `1 days`
-    /// is `Syntax`. The value is the one that is shown: rounded, and with the sign that is written.
+    /// is `Syntax`. The value is the one that is shown: rounded, and with the sign that is written. A text of a unit
+    /// without a number is the number that it says: in Arabic `يومان` is 2.
     ///
     /// In scientific and engineering notation the text has the exponent that the notation has for the number, with its
-    /// sign and its least number of digits: `1.2E3` is 1200, and `12E3`, `1E03` and `1200` are `Syntax`.
+    /// sign and its least number of digits: `1.2E3` is 1200, and `12E3`, `1E03` and `1200` are `Syntax`. The plural
+    /// category is that of the number with its exponent: in `fr` 0.001 is `1E-3 kilomètres`.
     ///
     /// In compact notation it has the words of the number's magnitude and plural category: in `en`, `1.25M` is 1250000,
     /// and `1250K`, `0.5M` and `1200` are `Syntax`. The value is the significand times the power of ten. A word without
@@ -469,17 +493,32 @@ impl NumberReader {
         }
     }
 
+    fn read_typed_standard<D: DigitStore>(
+        &self,
+        alloc: Global,
+        alternatives: &[Alternative<'_>],
+        text: &str,
+    ) -> Result<Signed<UnsignedOver<D>>, ParseError>
+        ensures { IsSaidOr self.now.units self.now.texts.shift text.now
+            (IsReadTyped D.L self.now.texts alternatives.now text.now) result }
+    {
+        match number_said(&self.units, text.as_bytes()) {
+            Some(number) => self.said(alloc, number),
+            None => self.reader.read_lenient(alloc, alternatives, text),
+        }
+    }
+
     fn read_typed_words<D: DigitStore>(
         &self,
         alloc: Global,
         alternatives: &[Alternative<'_>],
         text: &str,
     ) -> Result<Signed<UnsignedOver<D>>, ParseError>
-        ensures { IsTypedBy D.L self.now.texts None self.now.words alternatives.now text.now result }
+        ensures { IsTypedBy D.L self.now.units self.now.texts None self.now.words alternatives.now text.now result }
     {
         match &self.words {
             Some(words) => words.read_lenient(&self.reader, alloc, alternatives, text),
-            None => self.reader.read_lenient(alloc, alternatives, text),
+            None => self.read_typed_standard(alloc, alternatives, text),
         }
     }
 
@@ -489,7 +528,8 @@ impl NumberReader {
         alternatives: &[Alternative<'_>],
         text: &str,
     ) -> Result<Signed<UnsignedOver<D>>, ParseError>
-        ensures { IsTypedBy D.L self.now.texts self.now.exponent self.now.words alternatives.now text.now result }
+        ensures { IsTypedBy D.L self.now.units self.now.texts self.now.exponent self.now.words alternatives.now text.now
+            result }
     {
         match &self.exponent {
             Some(form) => {

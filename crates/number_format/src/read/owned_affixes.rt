@@ -59,7 +59,8 @@ fn cut_parts<'t>(text: &'t [u8], parts: &[TextPart<'_>]) -> Option<&'t [u8]>
     }
 }
 
-fn are_joined(text: &[u8], first: &[TextPart<'_>], second: &[TextPart<'_>]) -> bool
+/// Returns whether a text is that of parts and of others after them.
+pub(crate) fn are_joined(text: &[u8], first: &[TextPart<'_>], second: &[TextPart<'_>]) -> bool
     ensures { IsTrue result ↔ (text.now ≡ parts_text first.now ++ parts_text second.now) }
 {
     let Some(rest) = cut_parts(text, first) else {

@@ -1,7 +1,7 @@
 //! The texts around a number that a formatter writes, and what they say of the number.
-ghost use Rattle.std.specs.Prelude.{◌≡◌, ◌↔◌, ◌≤◌, ◌+◌, ◌*◌, ◌++◌, false, length, IsTrue, IfOk, MatchOption};
+ghost use Rattle.std.specs.Prelude.{◌≡◌, ◌↔◌, ◌≤◌, ◌+◌, ◌*◌, ◌++◌, length, IsTrue, IfOk};
 ghost use Rattle.decimal_format.specs.Symbols.{affixes};
-ghost use Rattle.number_format.specs.{AffixedTexts.Allows, FormattedNumbers.IsOuter, NumberReading.{HasNumbers, outer_at, pattern_at, keys_by, patterns_of}, NumberText.outer_by, TextParts.parts_text};
+ghost use Rattle.number_format.specs.{AffixedTexts.Allows, FormattedNumbers.IsOuter, NumberReading.{outer_at, number_key, number_pattern, pattern_at, keys_by, patterns_of}, TextParts.parts_text};
 
 use crate::format::affixes::NumberAffixes;
 use crate::format::formatter::NumberFormatter;
@@ -71,7 +71,8 @@ impl NumberPattern {
     }
 }
 
-fn short_text<const CAP: usize>(parts: &[TextPart<'_>]) -> ArrayString<CAP>
+/// Joins texts of parts, each of at most 255 bytes.
+pub(crate) fn short_text<const CAP: usize>(parts: &[TextPart<'_>]) -> ArrayString<CAP>
     requires { 255 * length parts.now ≤ CAP }
     ensures { result.bytes ≡ parts_text parts.now }
 {
@@ -114,45 +115,30 @@ impl NumberFormatter {
         }
     }
 
-    fn has_number(&self, category: PluralCategory) -> bool
-        ensures { result ≡ (outer_by self.now category).has_number }
+    fn number_key(&self, key: PatternKey) -> PatternKey
+        ensures { result ≡ number_key self.now key }
     {
-        self.outer_around(category).has_number
+        let outer = self.outer_at(key.0);
+        if outer.has_number {
+            return key;
+        }
+        (Some(Other), key.1)
     }
 
-    /// Returns a category whose text has no number, as `yesterday` has none.
-    pub(crate) fn category_without_number(&self) -> Option<PluralCategory>
-        ensures { MatchOption result (HasNumbers self.now) (λ c. (outer_by self.now c).has_number ≡ false) }
-    {
-        if !self.has_number(Zero) {
-            return Some(Zero);
-        }
-        if !self.has_number(One) {
-            return Some(One);
-        }
-        if !self.has_number(Two) {
-            return Some(Two);
-        }
-        if !self.has_number(Few) {
-            return Some(Few);
-        }
-        if !self.has_number(Many) {
-            return Some(Many);
-        }
-        if !self.has_number(Other) {
-            return Some(Other);
-        }
-        None
-    }
-
-    /// Returns the texts around a number of a pattern.
-    pub(crate) fn pattern_texts(&self, key: PatternKey) -> ShortAffixes<2550>
+    fn texts_at(&self, key: PatternKey) -> ShortAffixes<2550>
         ensures { result ≡ (pattern_at self.now key).affixes }
     {
         joined_texts(&self.outer_at(key.0), &self.style.affixes(key.1, None))
     }
 
-    fn pattern(&self, alloc: Global, key: PatternKey) -> Result<NumberPattern, AllocError>
+    /// Returns the texts around a number of a pattern.
+    pub(crate) fn pattern_texts(&self, key: PatternKey) -> ShortAffixes<2550>
+        ensures { result ≡ (number_pattern self.now key).affixes }
+    {
+        self.texts_at(self.number_key(key))
+    }
+
+    fn pattern_at(&self, alloc: Global, key: PatternKey) -> Result<NumberPattern, AllocError>
         ensures { IfOk result (λ p. p ≡ pattern_at self.now key) }
     {
         let affixes = OwnedAffixes::around(
@@ -166,6 +152,12 @@ impl NumberFormatter {
             category: key.0,
             exponent: 0,
         })
+    }
+
+    fn pattern(&self, alloc: Global, key: PatternKey) -> Result<NumberPattern, AllocError>
+        ensures { IfOk result (λ p. p ≡ number_pattern self.now key) }
+    {
+        self.pattern_at(alloc, self.number_key(key))
     }
 
     /// Returns for which plural categories and signs there are patterns.

@@ -1,9 +1,8 @@
 //! Reading of numbers in scientific and engineering notation.
-ghost use Rattle.std.specs.Prelude.{◌≡◌, ◌↔◌, ℕ, List, ℤ, IsTrue, IfSome, IsSomeAnd, IfOk};
+ghost use Rattle.std.specs.Prelude.{◌≡◌, ◌↔◌, ℕ, List, ℤ, IsTrue, IfSome, IsSomeAnd, IfOk, IfErr, Ok, Err};
 ghost use Rattle.std.specs.Int.Digits.{number_from_digits};
-ghost use Rattle.decimal_unsigned.specs.Unsigned.{IsValue};
 ghost use Rattle.decimal_format.specs.{Readable.IsReadable, Reading.IsNumeral};
-ghost use Rattle.number_format.specs.{AffixedTexts.shifted, ScientificReading.{exponent_form, step_of, IsInNotation, IsSeparatorApart, CanReadExponent, ScientificNumeral, IsScientificNumeral, IsReadScientific, HasNumbers, HasExponent, capped_exponent, exponent_of, IsSplit}};
+ghost use Rattle.number_format.specs.{AffixedTexts.shifted, ScientificReading.{exponent_form, step_of, IsInNotation, IsSeparatorApart, CanReadExponent, ScientificNumeral, IsScientificNumeral, IsReadScientific, HasNumbers, HasExponent, capped_exponent, exponent_of, IsSplit, HasParts}};
 
 mod apart;
 mod exponent;
@@ -31,14 +30,14 @@ pub(crate) struct ExponentForm<'a> {
     pub(crate) is_engineering: bool,
 }
 
-fn shifted<D: DigitStore>(
-    read: Result<Signed<UnsignedOver<D>>, ParseError>,
+/// Multiplies a significand by 10^exponent.
+pub(crate) fn times_power<D: DigitStore>(
+    significand: Signed<UnsignedOver<D>>,
     exponent: i32,
 ) -> Result<Signed<UnsignedOver<D>>, ParseError>
-    requires { IfOk read (λ v. IsValue v.absolute) }
-    ensures { (e : ℤ) → exponent ≡ capped_exponent e → result ≡ shifted e read }
+    ensures { (e : ℤ) → exponent ≡ capped_exponent e → result ≡ shifted e (Ok significand) }
 {
-    let mut value = read?;
+    let mut value = significand;
     if exponent < -32768 || exponent > 32767 {
         return Err(ParseError::Limit);
     }
@@ -111,6 +110,28 @@ impl<'a> ExponentForm<'a> {
         Some((significand, exponent.number))
     }
 
+    /// Reads the significand and the exponent of a number, as [`read`](Self::read) does before it multiplies: 40,000 or
+    /// -40,000 instead of a greater or a lesser exponent.
+    pub(crate) fn read_parts<D: DigitStore>(
+        &self,
+        symbols: &DecimalSymbols<'_>,
+        alloc: Global,
+        body: &[u8],
+    ) -> Result<(Signed<UnsignedOver<D>>, i32), ParseError>
+        requires readable { IsReadable symbols.now }
+        requires separator { IsSeparatorApart symbols.now self.now.separator.now }
+        ensures ok { IfOk result (λ parts. HasParts symbols.now self.now body.now parts.0 parts.1) }
+        ensures err { IfErr result (λ e. IsReadScientific D.L symbols.now self.now body.now (Err e)) }
+    {
+        let Some((significand, exponent)) = self.split(symbols, body) else {
+            return Err(ParseError::Syntax);
+        };
+        match symbols.read(alloc, significand) {
+            Ok(value) => Ok((value, exponent)),
+            Err(error) => Err(error),
+        }
+    }
+
     /// Reads a number as a formatter in scientific or engineering notation writes it.
     ///
     /// The significand is as [`DecimalSymbols::read`] accepts it, without a sign. The exponent is the one that the
@@ -132,9 +153,9 @@ impl<'a> ExponentForm<'a> {
         requires separator { IsSeparatorApart symbols.now self.now.separator.now }
         ensures { IsReadScientific D.L symbols.now self.now body.now result }
     {
-        let Some((significand, exponent)) = self.split(symbols, body) else {
-            return Err(ParseError::Syntax);
-        };
-        shifted(symbols.read(alloc, significand), exponent)
+        match self.read_parts(symbols, alloc, body) {
+            Ok((significand, exponent)) => times_power(significand, exponent),
+            Err(error) => Err(error),
+        }
     }
 }

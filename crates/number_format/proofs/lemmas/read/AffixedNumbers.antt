@@ -4,8 +4,8 @@ use Rattle.std.specs.Prelude as Prelude
 use Rattle.std.specs.{Prelude.{Result, Err, if◌then◌else◌, pos, ◌-◌, Option, Some, IfSome}, Int.Digits.AllBelowBase, List.Contains}
 use Rattle.decimal_unsigned.specs.{Unsigned.IsValue, declared.error.ParseError.{ParseError, TheVariants.Syntax}}
 use Rattle.fixed_decimal.specs.{Decimal.Decimal, declared.variations.Sign.{Sign, TheVariants.None}}
-use Rattle.plural_rules.specs.{Operands.plain, declared.rules.PluralCategory.PluralCategory}
-use Rattle.locale_data.specs.Plurals.{IsCategoryAt}
+use Rattle.plural_rules.specs.{Operands.{Operands, plain}, declared.rules.PluralCategory.PluralCategory}
+use Rattle.locale_data.specs.{Plurals.IsCategoryAt, declared.plurals.PluralRulesId.PluralRulesId}
 use Rattle.decimal_format.specs.{declared.grouping.GroupingStrategy.GroupingStrategy, Formatted.absolute_text, Grouping.is_grouped, Readable.{IsReadable, BeginsWithDigit, EndsWithDigit}, Reading.{Numeral, AreDigits, IsRead, digits_text, fraction_text, absolute_numeral_text, separated_by}, Symbols.{Symbols, Affixes, digit_text, sign_affixes}}
 use Rattle.decimal_format.specs.Reading as reading
 use Rattle.decimal_format.proofs.lemmas.reader.{NumeralLaws.{texts_are_unique, none_read, with_sign, read_inside}, Around.no_sign, NumeralTexts.{digits_of_value, absolute_is}, Scans.{begins-append, number_begins, none_after_last, strategy_is}}
@@ -108,6 +108,18 @@ named_texts_are_unique r named readable text v w valid valid' (p, x) (q, y) =
     (two_texts r.symbols readable p q (named.pair p q x.listed y.listed) v w valid valid' x.sign y.sign x.strategy
     y.strategy (sym x.is ∙ y.is)).1
 
+-- ---- The category of a pattern.
+
+module _ (rules : PluralRulesId) (number : Operands) (c : PluralCategory) (of_number : IsCategoryAt rules number c)
+  where
+    pub of_category : (own : Option PluralCategory) → IfSome own (λ x. x ≡ c) → IfSome own (IsCategoryAt rules number)
+    of_category Prelude.None allowed = tt
+    of_category (Some x) allowed = subst (IsCategoryAt rules number) (sym allowed) of_number
+
+    pub allows_it : (own : Option PluralCategory) → IfSome own (IsCategoryAt rules number) → IfSome own (λ x. x ≡ c)
+    allows_it Prelude.None is = tt
+    allows_it (Some x) is = category_unique rules number x c is of_number
+
 -- ---- What is read between the texts of a pattern.
 
 module _ (r : Reader) (bytes : List ℕ) where
@@ -140,16 +152,6 @@ module _ (r : Reader) (bytes : List ℕ) where
 
   module _ (named : AreNamed r.symbols r.patterns) (v : Decimal) (valid : IsValue v.absolute) (c : PluralCategory)
       (of_value : IsCategoryAt r.rules (plain v.absolute) c) where
-    of_category : (own : Option PluralCategory) → IfSome own (λ x. x ≡ c)
-        → IfSome own (IsCategoryAt r.rules (plain v.absolute))
-    of_category Prelude.None allowed = tt
-    of_category (Some x) allowed = subst (IsCategoryAt r.rules (plain v.absolute)) (sym allowed) of_value
-
-    allows_it : (own : Option PluralCategory) → IfSome own (IsCategoryAt r.rules (plain v.absolute))
-        → IfSome own (λ x. x ≡ c)
-    allows_it Prelude.None is = tt
-    allows_it (Some x) is = category_unique r.rules (plain v.absolute) x c is of_value
-
     -- the text is that of the pattern of this category
     pub shown_by : (p q : NumberPattern) (middle : List ℕ) → IsWrittenBy r bytes v p
         → IsSplit r.symbols r.patterns (Some c) bytes q middle → IsShown r bytes v
@@ -165,7 +167,7 @@ module _ (r : Reader) (bytes : List ℕ) where
             strategy = x.strategy;
             is = x.is ∙ ap (λ (a : Affixes). a.prefix ++ (text ++ a.suffix)) same.0.0;
           },
-          of_category q.category split.allowed,
+          of_category r.rules (plain v.absolute) c of_value q.category split.allowed,
         )
 
     -- the text is that of no pattern of this category
@@ -173,7 +175,7 @@ module _ (r : Reader) (bytes : List ℕ) where
         → ¬ IsShown r bytes v
     not_shown none (p, x, of_its) = none p _ (record {
       listed = x.listed;
-      allowed = allows_it p.category of_its;
+      allowed = allows_it r.rules (plain v.absolute) c of_value p.category of_its;
       between = value_between v valid p x;
     })
 

@@ -6,7 +6,7 @@ use Rattle.fixed_decimal.specs.{Decimal.Decimal}
 use Rattle.plural_rules.specs.{Operands.plain, declared.rules.PluralCategory.PluralCategory}
 use Rattle.locale_data.specs.{Plurals.IsCategoryAt, declared.compact.CompactStyle.CompactStyle}
 use Rattle.decimal_format.specs.{Formatted.absolute_text, Reading.IsRead, Symbols.Affixes}
-use Rattle.number_format.specs.{declared.{format.formatter.NumberFormatter.NumberFormatter, read.{compact.keys.CompactKey.CompactKey, pattern.NumberPattern.NumberPattern}}, AffixedTexts.{Reader, shifted, IsNumeral, IsWritten, IsWrittenBy}, CompactReading.{category_at, has_number_at, whole_text, word_pattern, word_reader, AreWordPatterns, HasCompactExponents, IsReadShownInWords, magnitude_by, is_unit, HasTextsOf, IsOwnOr, IsOwnPattern, IsReadByNumber, IsShownInWords, IsReadInAnyWords, IsWordReader}, Scaled.exponent_at}
+use Rattle.number_format.specs.{declared.{format.formatter.NumberFormatter.NumberFormatter, read.{compact.keys.CompactKey.CompactKey, pattern.NumberPattern.NumberPattern}}, AffixedTexts.{Reader, shifted, IsNumeral, IsWritten, IsWrittenBy}, CompactReading.{category_at, has_number_at, whole_text, word_pattern, word_reader, AreWordPatterns, ChoosesOne, HasCompactExponents, HidesSigns, IsReadShownInWords, magnitude_by, is_unit, HasTextsOf, IsOwnOr, IsOwnPattern, IsReadByNumber, IsShownInWords, IsReadInAnyWords, IsWordReader}, Scaled.exponent_at}
 use Rattle.number_format.proofs.lemmas.{range.RangeEnds.category_unique, read.{AffixedNumbers.two_texts, CompactKeys.{code, coded}, CompactPatterns.AllBelow, CompactTexts.small_exponent}}
 
 -- powers of ten are compared as 32-bit integers
@@ -53,14 +53,14 @@ module _ (f : NumberFormatter) (style : CompactStyle) (v : Decimal) (p : NumberP
         (subst (λ (z : ℤ). IsTrue b ↔ HasTextsOf f style p (record (key one) { magnitude = to_z w16 (of_z w16 z) }))
         (to_z-of_z w16 m fits) test)
 
-    own_by : (one : Bool) → (one ≡ true → is_unit v.absolute ≡ true) → exponent_at f.notation m ≡ p.exponent
+    own_by : (one : Bool) → ChoosesOne f v one → exponent_at f.notation m ≡ p.exponent
         → HasTextsOf f style p (key one) → IsOwnPattern f style v p
-    own_by one unit exponent has = record {
+    own_by one chosen exponent has = record {
       key = record (key one) { whole = has.1.0 };
       own = record {
         magnitude = magnitude ∙ ap (magnitude_by v.absolute) (sym exponent);
         category = of_value;
-        is_one = unit;
+        one = chosen;
         sign = sign;
       };
       has = has.0;
@@ -83,35 +83,31 @@ module _ (f : NumberFormatter) (style : CompactStyle) (v : Decimal) (p : NumberP
           (k.whole, own.is.0 ∙ ap (λ x. (word_pattern f style x).affixes) same),
         )
 
-    -- the texts are those for another number than 1
-    pub own_plural : exponent_at f.notation m ≡ p.exponent → HasTextsOf f style p (key false)
-        → IsTrue true ↔ IsOwnPattern f style v p
-    own_plural exponent has = (λ t. own_by false (λ e. absurd (cc)) exponent has, λ own. refl)
+    module _ (unit : Bool) (is : unit ≡ is_unit v.absolute) where
+      -- the texts are those of the number
+      pub own_texts : exponent_at f.notation m ≡ p.exponent → HasTextsOf f style p (key unit)
+          → IsTrue true ↔ IsOwnPattern f style v p
+      own_texts exponent has = (λ t. own_by unit (inl is) exponent has, λ own. refl)
 
-    -- they are not, and the number is no 1
-    pub not_unit : (b : Bool) → b ≡ is_unit v.absolute → b ≡ false → ¬ HasTextsOf f style p (key false)
-        → IsTrue b ↔ IsOwnPattern f style v p
-    not_unit b is off none = (
-      λ t. absurd (let on : b ≡ true = t in let e = sym off ∙ on in cc),
-      λ own. absurd (by own.key.is_one (texts_by own) own.own.is_one),
-    )
-      where
-        by : (one : Bool) → HasTextsOf f style p (key one) → (one ≡ true → is_unit v.absolute ≡ true) → ⊥
-        by false has unit = none has
-        by true has unit = absurd (let e = sym off ∙ is ∙ unit refl in cc)
+      -- they are not
+      module _ (none : ¬ HasTextsOf f style p (key unit)) where
+        texts_of_negative : IsOwnPattern f style v p → HidesSigns f × HasTextsOf f style p (key false)
+        texts_of_negative own = go own.key.is_one (texts_by own) own.own.one
+          where
+            go : (one : Bool) → HasTextsOf f style p (key one) → ChoosesOne f v one
+                → HidesSigns f × HasTextsOf f style p (key false)
+            go one has (inl same) = absurd (none (subst (λ b. HasTextsOf f style p (key b)) (same ∙ sym is) has))
+            go one has (inr hidden) = (hidden.1, subst (λ b. HasTextsOf f style p (key b)) hidden.0 has)
 
-    -- it is 1, and the texts are those for 1 or not
-    pub own_singular : (b r : Bool) → b ≡ is_unit v.absolute → b ≡ true → exponent_at f.notation m ≡ p.exponent
-        → ¬ HasTextsOf f style p (key false) → IsTrue r ↔ HasTextsOf f style p (key true)
-        → IsTrue r ↔ IsOwnPattern f style v p
-    own_singular b r is on exponent none test = (
-      λ t. own_by true (λ e. sym is ∙ on) exponent (test.0 t),
-      λ own. by own.key.is_one (texts_by own),
-    )
-      where
-        by : (one : Bool) → HasTextsOf f style p (key one) → IsTrue r
-        by false has = absurd (none has)
-        by true has = test.1 has
+        -- a sign is written
+        pub shows_signs : ¬ HidesSigns f → IsTrue false ↔ IsOwnPattern f style v p
+        shows_signs shows = (λ t. absurd (cc), λ own. absurd (shows (texts_of_negative own).0))
+
+        -- no sign is written, and the texts are those of a negative number or not
+        pub own_negative : HidesSigns f → (r : Bool) → exponent_at f.notation m ≡ p.exponent
+            → IsTrue r ↔ HasTextsOf f style p (key false) → IsTrue r ↔ IsOwnPattern f style v p
+        own_negative hides r exponent test =
+            (λ t. own_by false (inr (refl, hides)) exponent (test.0 t), λ own. test.1 (texts_of_negative own).1)
 
 -- the texts of a key are those of some category of the whole number
 module _ (f : NumberFormatter) (style : CompactStyle) (p : NumberPattern) (k : CompactKey) where

@@ -1,18 +1,19 @@
 -- What a formatter writes in compact notation is read back by its reader.
-use Rattle.std.proofs.{Common.{◌≡◌, ◌==◌, ◌&&◌, ℕ, zero, suc, Bool, true, false, List, [], ◌++◌, inl, inr, refl, sym, ◌∙◌, ap, subst, arith, append-nil}, lemmas.{Bool.{and_parts, Decides.nat_tests}, Int.{ints, clamps}}}
-use Rattle.std.specs.{Prelude.{◌⊎◌, Option, Some, None, Result, Ok, Err, MatchResult, if◌then◌else◌, not, ℤ, pos, unsigned_abs, ◌+ℤ◌, ◌-ℤ◌, ◌≤ℤ◌, int_lt}, Int.{int_min}}
-use Rattle.decimal_digits.specs.Number.{first}
+use Rattle.std.proofs.{Common.{◌≡◌, ◌==◌, ◌&&◌, ◌<◌, ◌/◌, ◌*◌, ◌^◌, ℕ, zero, suc, Bool, true, false, List, [], ◌++◌, inl, inr, refl, sym, ◌∙◌, ap, subst, arith, append-nil}, Math.{Bool.and-true, Nat.{mul-pos, pos_of_div-pos}}, lemmas.{Bool.{and_parts, Decides.nat_tests}, Int.{ints, clamps}}}
+use Rattle.std.specs.{Prelude.{◌⊎◌, Option, Some, None, Result, Ok, Err, MatchResult, if◌then◌else◌, not, ℤ, pos, unsigned_abs, ◌+ℤ◌, ◌-ℤ◌, ◌≤ℤ◌, int_lt}, Int.{int_min}, Option.option_map_or}
+use Rattle.decimal_digits.specs.Number.{first, weight}
 use Rattle.decimal_unsigned.specs.{Unsigned.{IsValue, one_value}, declared.error.ParseError.{ParseError, TheVariants.Memory}}
-use Rattle.fixed_decimal.specs.{Decimal.{Decimal, displayed_sign}, declared.variations.{Sign.Sign, SignDisplay.SignDisplay}}
+use Rattle.fixed_decimal.specs.{Decimal.{Decimal, displayed_sign, negative_or}, declared.variations.{Sign.Sign, SignDisplay.SignDisplay}}
 use Rattle.fixed_decimal.specs.declared.variations.SignDisplay.TheVariants as display
-use Rattle.fixed_decimal.proofs.Calling.{below_limit, first_zero}
+use Rattle.fixed_decimal.proofs.Calling.{below_limit, first_zero, ten_pos}
 use Rattle.plural_rules.specs.Operands as operands
+use Rattle.plural_rules.specs.declared.rules.PluralCategory.{PluralCategory}
 use Rattle.locale_data.specs.{Plurals.IsCategoryAt, declared.compact.CompactStyle.CompactStyle}
-use Rattle.locale_data.proofs.lemmas.tables.OneAlone.{one_is_unit}
+use Rattle.locale_data.proofs.lemmas.tables.HeldAlone.{held_is_number}
 use Rattle.decimal_format.specs.Formatted.{absolute_text}
 use Rattle.decimal_format.proofs.lemmas.reader.Scans.{begins-append}
-use Rattle.number_format.specs.{declared.{digits.options.DigitOptions.DigitOptions, format.formatter.NumberFormatter.NumberFormatter, notation.Notation.Notation, options.{NumberNotation.NumberNotation, NumberStyle.NumberStyle}, read.{compact.keys.CompactKey.CompactKey}}, FormattedNumbers.{visible_text, exponent_text}, AffixedTexts.{between, shifted, IsWrittenBy}, CompactReading.{has_number_at, inner_at, is_single, word_pattern, magnitude_by, is_unit, one_of, word_reader, HasCompactExponents, HasWordNumbers, IsNoWhole, IsForOneAlone, IsOwnInWords, IsOwnKey, IsReadByNumber, IsReadInWords, IsReadShownInWords, IsSaid, IsShownInWords, IsWholeOf}, NumberReading.{CanRead, CanReadExponents, CanReadNotation, CanReadWords, IsShownAs, KeepsNotation, words_of, AreOwnWordsNamed}, NumberText.{IsNumberText, around_by, bare_separator, compact_magnitude, compact_pattern, compact_power, compact_style, exponent_of, is_negative, is_one, number_before_cut, rounded_in, shown_sign}, ScientificReading.exponent_form, Scaled.{ScaledValue, base_exponent, compact_exponent, exponent_at, IsOrdered}}
-use Rattle.number_format.proofs.lemmas.{format.PieceTexts.{shows_integer, text-of_digits_and_exponent}, notation.Scales.{keeps_exponent, zero_exponent}, read.{AffixedNumbers.{two_texts, value_text_is}, CompactKeys.{clamped, same_exponent_at}, FormatterTexts.{inner_by, text_by, some_same}, ShownValues.{scaled_first}}}
+use Rattle.number_format.specs.{declared.{digits.options.DigitOptions.DigitOptions, format.formatter.NumberFormatter.NumberFormatter, notation.Notation.Notation, options.{NumberNotation.NumberNotation, NumberStyle.NumberStyle}, read.compact.keys.CompactKey.CompactKey}, FormattedNumbers.{visible_text, exponent_text}, AffixedTexts.{between, shifted, IsWrittenBy}, CompactReading.{has_number_at, inner_at, is_single, word_pattern, magnitude_by, is_unit, one_of, word_reader, ChoosesOne, HasCompactExponents, HasWordNumbers, IsNoWhole, IsForOneAlone, IsOwnInWords, IsOwnKey, IsReadByNumber, IsReadInWords, IsReadShownInWords, IsSaid, IsShownInWords, IsWholeOf}, NumberReading.{CanRead, CanReadExponents, CanReadNotation, CanReadWords, IsShownAs, KeepsNotation, words_of, AreOwnWordsNamed, HasNumbers}, NumberText.{IsNumberText, around_by, bare_separator, compact_magnitude, compact_pattern, compact_power, compact_style, exponent_of, is_negative, is_one, number_before_cut, rounded_by, rounded_in, shown_sign}, ScientificReading.exponent_form, Scaled.{ScaledValue, base_exponent, compact_exponent, exponent_at, rounded_number, IsOrdered}}
+use Rattle.number_format.proofs.lemmas.{format.PieceTexts.{shows_integer, text-of_digits_and_exponent}, notation.Scales.{keeps_exponent, keeps_value_of, zero_exponent}, read.{AffixedNumbers.{two_texts, value_text_is}, CompactKeys.{clamped, same_exponent_at}, FormatterTexts.{inner_by, text_by, some_same, no_words}, ShownValues.scaled_first, WholeUnits.has_numbers}}
 
 -- ---- The exponent.
 
@@ -101,32 +102,78 @@ module _ (n : Notation) (has : HasCompactExponents n) (v : Decimal) (e : ℤ)
 
 -- ---- The text.
 
--- a number without a minus sign is shown without one
-plain_by : (b : Bool) (s : Sign) → is_negative s ≡ false → is_negative (if b then Sign.None else s) ≡ false
-plain_by true s is = refl
-plain_by false s is = is
+-- another sign is shown for one that is no minus sign
+negative_is : (other s : Sign) → is_negative other ≡ false → is_negative (negative_or other s) ≡ is_negative s
+negative_is other Sign.Negative plain = refl
+negative_is other Sign.None plain = plain
+negative_is other Sign.Positive plain = plain
 
-shown_plain : (display : SignDisplay) (n : ℕ) (s : Sign) → is_negative s ≡ false
-    → is_negative (displayed_sign display n s) ≡ false
-shown_plain display n Sign.Negative is = absurd (cc)
-shown_plain display.Auto n Sign.None is = refl
-shown_plain display.Auto n Sign.Positive is = refl
-shown_plain display.Never n s is = refl
-shown_plain display.Always n Sign.None is = refl
-shown_plain display.Always n Sign.Positive is = refl
-shown_plain display.ExceptZero n Sign.None is = plain_by (n == 0) Sign.Positive refl
-shown_plain display.ExceptZero n Sign.Positive is = plain_by (n == 0) Sign.Positive refl
-shown_plain display.Negative n Sign.None is = plain_by (n == 0) Sign.None refl
-shown_plain display.Negative n Sign.Positive is = plain_by (n == 0) Sign.None refl
+-- whether the pattern for 1 itself is chosen, by a key: for -1 too where its sign is shown
+abbrev one_by : SignDisplay → Sign → Bool → Bool
+one_by display.Never s unit = not (is_negative s) && unit
+one_by other s unit = unit
 
--- so the pattern for 1 itself is chosen by the sign of the number as by the one that is shown
-one_is_single : (unit : Bool) (display : SignDisplay) (n : ℕ) (s : Sign)
-    → (not (is_negative s) && unit) ≡ ((not (is_negative s) && unit) && not (is_negative (displayed_sign display n s)))
-one_is_single unit display n Sign.Negative = refl
-one_is_single false display n Sign.None = refl
-one_is_single false display n Sign.Positive = refl
-one_is_single true display n Sign.None = ap not (sym (shown_plain display n Sign.None refl))
-one_is_single true display n Sign.Positive = ap not (sym (shown_plain display n Sign.Positive refl))
+single_by : (unit negative shown : Bool) → (unit ≡ true → shown ≡ negative)
+    → (not negative && unit) ≡ (unit && not shown)
+single_by true true shown same = ap not (sym (same refl))
+single_by true false shown same = ap not (sym (same refl))
+single_by false true shown same = refl
+single_by false false shown same = refl
+
+-- it is chosen by the sign of the number as by the one that is shown
+one_is_single : (unit : Bool) (display : SignDisplay) (n : ℕ) (s : Sign) → (unit ≡ true → (n == 0) ≡ false)
+    → (not (is_negative s) && unit) ≡ (one_by display s unit && not (is_negative (displayed_sign display n s)))
+one_is_single unit display.Never n s some = sym (and-true (not (is_negative s) && unit))
+one_is_single unit display.Auto n s some = single_by unit _ _ (λ one. negative_is Sign.None s refl)
+one_is_single unit display.Always n s some = single_by unit _ _ (λ one. negative_is Sign.Positive s refl)
+one_is_single unit display.ExceptZero n s some =
+    single_by unit _ _
+    (λ one. ap (λ b. is_negative (if b then Sign.None else negative_or Sign.Positive s)) (some one)
+    ∙ negative_is Sign.Positive s refl)
+one_is_single unit display.Negative n s some =
+    single_by unit _ _
+    (λ one. ap (λ b. is_negative (if b then Sign.None else negative_or Sign.None s)) (some one)
+    ∙ negative_is Sign.None s refl)
+
+never_one : (unit : Bool) (s : Sign)
+    → ((not (is_negative s) && unit) ≡ unit) ⊎ ((not (is_negative s) && unit) ≡ false)
+never_one unit Sign.Negative = inr refl
+never_one unit Sign.None = inl refl
+never_one unit Sign.Positive = inl refl
+
+-- so each key chooses it as a significand does
+chosen : (f : NumberFormatter) (u : Decimal) (unit : Bool) (s : Sign) (display : SignDisplay)
+    → f.options.sign_display ≡ display → unit ≡ is_unit u.absolute → ChoosesOne f u (one_by display s unit)
+chosen f u unit s display.Never hides is =
+    elim (never_one unit s) [
+      | inl same ↦ inl (same ∙ is)
+      | inr negative ↦ inr (negative, hides)
+    ]
+chosen f u unit s display.Auto shows is = inl is
+chosen f u unit s display.Always shows is = inl is
+chosen f u unit s display.ExceptZero shows is = inl is
+chosen f u unit s display.Negative shows is = inl is
+
+unit_of_one : (f : NumberFormatter) (u : Decimal) (one : Bool) → ChoosesOne f u one → one ≡ true
+    → is_unit u.absolute ≡ true
+unit_of_one f u one (inl same) is = sym same ∙ is
+unit_of_one f u one (inr negative) is = absurd (let e = sym negative.0 ∙ is in cc)
+
+-- the number 1 is not 0 before it is divided
+unit_some : (f : NumberFormatter) (digits : Option DigitOptions) (w : Decimal) (x : ScaledValue)
+    → KeepsNotation digits → rounded_in f.notation digits w ≡ Some x → is_unit x.significand.absolute ≡ true
+    → (rounded_by f.notation digits w == 0) ≡ false
+unit_some f None w x keeps is one = absurd keeps
+unit_some f (Some o) w x keeps is one =
+    let made = keeps_value_of f.notation o w keeps.0 x is in
+    let t = made.0 in
+    let number : rounded_number f.notation o w ≡ t.number = ap (λ r. option_map_or (λ s. s.number) r 0) made.1 in
+    let a = x.significand.absolute in
+    let units : (operands.i a == 1) ≡ true = (and_parts (operands.i a == 1) (operands.w a == 0) one).0 in
+    let whole : 0 < a.number / weight (pos 0) = grind (arith, nat_tests, units) in
+    let some : 0 < a.number = pos_of_div-pos (weight (pos 0)) whole in
+    let product : 0 < t.number = subst (λ n. 0 < n) made.2 (mul-pos some (ten_pos t.exponent)) in
+    grind (arith, nat_tests, number, product)
 
 -- a number is shown as a whole text
 pub record IsShownWhole (f : NumberFormatter) (style : CompactStyle) (text : List ℕ) (u : Decimal) (e : ℤ)
@@ -162,6 +209,12 @@ module _ (f : NumberFormatter) (style : CompactStyle) (words : words_of f ≡ So
   can_read (inr (inr can)) = subst (CanReadWords f) words can
 
   module _ (can : CanRead f) where
+    numbers : HasNumbers f
+    numbers =
+        has_numbers f
+        (λ standard. absurd (let none : None ≡ Some style = sym (no_words f standard) ∙ words in cc))
+        can.undo.1
+
     named : AreOwnWordsNamed f (Some style)
     named = subst (AreOwnWordsNamed f) words can.words
 
@@ -184,7 +237,8 @@ module _ (f : NumberFormatter) (style : CompactStyle) (words : words_of f ≡ So
       key_of text t = record {
         magnitude = compact_magnitude f.notation shown.number.significand shown.number.exponent;
         category = t.1.category;
-        is_one = is_one shown.number.significand;
+        is_one = one_by f.options.sign_display shown.number.significand.sign
+            (is_unit shown.number.significand.absolute);
         whole = t.1.whole;
         sign = shown_sign f v shown.number.significand;
       }
@@ -207,7 +261,8 @@ module _ (f : NumberFormatter) (style : CompactStyle) (words : words_of f ≡ So
                 ∙ (λ i. magnitude_by (sym shown.absolute i) (sym (exponent_of_key text t) i));
             category = subst (λ a. IsCategoryAt f.rules (operands.plain a) t.1.category)
                 (ap (λ (x : ScaledValue). x.significand.absolute) same ∙ sym shown.absolute) t.1.of_significand;
-            is_one = λ one. ap is_unit shown.absolute ∙ (and_parts _ _ one).1;
+            one = chosen f u (is_unit number.significand.absolute) number.significand.sign f.options.sign_display refl
+                (sym (ap is_unit shown.absolute));
             sign = sym shown.sign;
           }
 
@@ -215,8 +270,10 @@ module _ (f : NumberFormatter) (style : CompactStyle) (words : words_of f ≡ So
           → is_one shown.number.significand ≡ is_single (key_of text t)
       single text t =
           let number = shown.number.significand in
-          one_is_single (operands.i number.absolute == 1 && operands.w number.absolute == 0) f.options.sign_display
-          (number_before_cut f v) number.sign
+          let first = scaled_first f v shown.number valid shown.number_is in
+          one_is_single (is_unit number.absolute) f.options.sign_display (number_before_cut f v) number.sign
+          (λ one. ap (λ n. n == 0) first.3
+          ∙ unit_some f f.digits first.0 shown.number (can_read can.undo.0.0).0 first.2 one)
 
       inner_of : (text : List ℕ) (t : IsNumberText f v text)
           → inner_by f v shown.number t.1.category ≡ inner_at f style (key_of text t)
@@ -235,7 +292,7 @@ module _ (f : NumberFormatter) (style : CompactStyle) (words : words_of f ≡ So
             has = has;
             exponent = exponent_of_key text t;
             strategy = f.options.grouping;
-            is = text_by f v u text can.undo.1 t shown _ (inner_of text t) true has
+            is = text_by f v u text t (numbers t.1.whole) shown _ (inner_of text t) true has
                 ∙ ap (between (word_pattern f style (key_of text t)))
                 (text-of_digits_and_exponent f u.absolute (exponent_of f.options.notation e)
                 ∙ (λ i. (visible_text
@@ -251,7 +308,7 @@ module _ (f : NumberFormatter) (style : CompactStyle) (words : words_of f ≡ So
             own = own_key text t;
             whole = record {
               none = none;
-              is = text_by f v u text can.undo.1 t shown _ (inner_of text t) false none;
+              is = text_by f v u text t (numbers t.1.whole) shown _ (inner_of text t) false none;
             };
             exponent = exponent_of_key text t;
           })
@@ -285,9 +342,9 @@ module _ (f : NumberFormatter) (style : CompactStyle) (words : words_of f ≡ So
 
     is_unit_of : (u : Decimal) (k : CompactKey) → IsValue u.absolute → IsOwnKey f u k → IsForOneAlone f k
         → is_unit u.absolute ≡ true
-    is_unit_of u k valid own (inl single) = own.is_one (and_parts _ _ single).0
+    is_unit_of u k valid own (inl single) = unit_of_one f u k.is_one own.one (and_parts _ _ single).0
     is_unit_of u k valid own (inr (one, alone)) =
-        one_is_unit u.absolute valid f.rules alone
+        held_is_number u.absolute valid 1 f.rules PluralCategory.One alone
         (subst (IsCategoryAt f.rules (operands.plain u.absolute)) one own.category)
 
     said_whole : (text : List ℕ) (u : Decimal) (e : ℤ) → IsValue u.absolute → (shown : IsShownWhole f style text u e)

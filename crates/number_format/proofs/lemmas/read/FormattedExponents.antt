@@ -6,9 +6,10 @@ use Rattle.fixed_decimal.specs.{Decimal.Decimal, declared.variations.Sign.Sign}
 use Rattle.fixed_decimal.proofs.Calling.{below_limit}
 use Rattle.plural_rules.specs.declared.rules.PluralCategory.{PluralCategory}
 use Rattle.decimal_format.specs.Scanning.{value_of}
+use Rattle.locale_data.specs.Plurals.{IsCategoryAt}
 use Rattle.number_format.specs.ScientificReading as scientific
-use Rattle.number_format.specs.{declared.{digits.options.DigitOptions.DigitOptions, format.{formatter.NumberFormatter.NumberFormatter, ids.FormatterIds.FormatterIds, outer.OuterTexts.OuterTexts}, notation.Notation.{Notation}, options.{DecimalSeparatorDisplay.DecimalSeparatorDisplay, NumberOptions.NumberOptions, NumberNotation.NumberNotation, NumberStyle.NumberStyle}, read.{pattern.NumberPattern.NumberPattern, scientific.ExponentForm.ExponentForm}}, AffixedExponents.IsReadWithExponent, AffixedTexts.{between, shifted, IsSplit}, Formatters.{IsFormatterAt, IsNotationBy}, NumberReading.{KeepsNotation, CanReadExponents, CanReadWords, CanReadNotation, HasNumbers, CanRead, IsShownAs, keys_by, pattern_at, patterns_of, reader_of}, NumberText.{IsNumberText, compact_style, exponent_of, needs_no_integer, rounded_in, shown_sign}, Scaled.{ScaledValue, scaled}, ScientificReading.{CanReadExponent, ScientificNumeral, IsScientificNumeral, exponent_form, HasExponentOf, notation_of, scientific_text}}
-use Rattle.number_format.proofs.lemmas.{format.PieceTexts.{shows_integer, text-of_digits_and_exponent}, notation.Exponents.exponent_shown, read.{AffixedNumbers.only_middle, FormatterTexts.{none_key, text_between}, PatternLists.in_map, ScientificAffixes.affixed_reads, ScientificBodies.{number_written, scientific_begins, scientific_ends}, ScientificShown.{number, numeral, shown_numeral}, ScientificUnique.{one_significand, one_exponent}, ShownValues.{scaled_first, shown_value}}}
+use Rattle.number_format.specs.{declared.{digits.options.DigitOptions.DigitOptions, format.{formatter.NumberFormatter.NumberFormatter, ids.FormatterIds.FormatterIds, outer.OuterTexts.OuterTexts}, notation.Notation.Notation, options.{DecimalSeparatorDisplay.DecimalSeparatorDisplay, NumberOptions.NumberOptions, NumberNotation.NumberNotation, NumberStyle.NumberStyle}, read.{pattern.NumberPattern.NumberPattern, scientific.ExponentForm.ExponentForm}}, AffixedExponents.{IsReadWithExponent, IsOfExponent}, AffixedTexts.{between, shifted, IsSplit}, Formatters.{IsFormatterAt, IsNotationBy}, NumberReading.{KeepsNotation, CanReadExponents, CanReadWords, CanReadNotation, HasNumbers, CanRead, IsShownAs, keys_by, number_pattern, pattern_at, patterns_of, reader_of}, NumberText.{IsNumberText, compact_style, exponent_of, needs_no_integer, rounded_in, shown_sign, operands_by, operands_with, outer_operands, whole_number}, Scaled.{ScaledValue, scaled}, ScientificReading.{CanReadExponent, ScientificNumeral, IsScientificNumeral, exponent_form, HasExponentOf, notation_of, scientific_text}}
+use Rattle.number_format.proofs.lemmas.{format.PieceTexts.{shows_integer, text-of_digits_and_exponent}, notation.Exponents.exponent_shown, read.{AffixedNumbers.{only_middle, of_category}, FormatterTexts.{IsKeyOf, is_listed, key_of, number_at, some_same, text_between}, ScientificAffixes.affixed_reads, ScientificBodies.{number_written, scientific_begins, scientific_ends}, ScientificShown.{number, numeral, shown_numeral}, ScientificUnique.{one_significand, one_exponent}, ShownValues.{scaled_first, shown_value}, WholeUnits.has_numbers}}
 use Rattle.number_format.proofs.lemmas.read.ScientificShown as shown_texts
 
 -- ---- The notation.
@@ -40,6 +41,15 @@ notation_is f (NumberNotation.Engineering o) style form Notation.Standard h is =
 notation_is f (NumberNotation.Engineering o) style form Notation.Scientific h is = absurd is
 notation_is f (NumberNotation.Engineering o) style form (Notation.Compact table) h is = absurd is
 
+-- the category of what is around the whole text is that of the significand with the exponent
+operands_are : (f : NumberFormatter) (n : NumberNotation) (form : ExponentForm) → exponent_form f n ≡ Some form
+    → (whole : Unsigned) (number : ScaledValue)
+    → operands_by n whole number ≡ operands_with number.significand.absolute number.exponent
+operands_are f NumberNotation.Standard form h whole number = absurd (cc)
+operands_are f (NumberNotation.Compact words) form h whole number = absurd (cc)
+operands_are f (NumberNotation.Scientific o) form h whole number = refl
+operands_are f (NumberNotation.Engineering o) form h whole number = refl
+
 -- ---- The exponent.
 
 module _ (f : NumberFormatter) (form : ExponentForm) (h : exponent_form f f.options.notation ≡ Some form) where
@@ -62,17 +72,17 @@ module _ (f : NumberFormatter) (form : ExponentForm) (h : exponent_form f f.opti
 
   -- ---- The text.
 
-  formatter_text : (v u : Decimal) (text : List ℕ) → f.outer ≡ OuterTexts.None
-      → f.options.decimal_separator ≡ DecimalSeparatorDisplay.Auto → needs_no_integer f.digits ≡ false
-      → HasNumbers f → IsNumberText f v text → (shown : IsShownAs f v u)
-      → text ≡ between (pattern_at f (None, u.sign))
+  formatter_text : (v u : Decimal) (text : List ℕ) → f.options.decimal_separator ≡ DecimalSeparatorDisplay.Auto
+      → needs_no_integer f.digits ≡ false → HasNumbers f → (t : IsNumberText f v text) (shown : IsShownAs f v u)
+      (key : Option PluralCategory × Sign)
+      → IsKeyOf f f.outer t.1.whole (shown_sign f v shown.number.significand) key
+      → text ≡ between (pattern_at f key)
       (scientific_text f.style.symbols form f.options.grouping u.absolute shown.number.exponent)
-  formatter_text v u text alone auto integer has is shown =
+  formatter_text v u text auto integer has t shown key own =
       let e = shown.number.exponent in
       let words = no_words f f.options.notation f.options.style form h in
-      let key = none_key f words alone is.1.whole (shown_sign f v shown.number.significand) u.sign shown.sign in
-      text_between f v u text words has is shown (None, u.sign) key
-      ∙ ap (between (pattern_at f (None, u.sign)))
+      text_between f v u text words t (has t.1.whole) shown key own
+      ∙ ap (between (pattern_at f key))
       (text-of_digits_and_exponent f u.absolute (exponent_of f.options.notation e)
       ∙ number_written f form h auto u.absolute e
       (shows_integer f.digits f.options.decimal_separator u.absolute integer))
@@ -80,19 +90,14 @@ module _ (f : NumberFormatter) (form : ExponentForm) (h : exponent_form f f.opti
 -- the number that a formatter shows, and its text
 module _ (ids : FormatterIds) (o : NumberOptions) (f : NumberFormatter) (form : ExponentForm)
     (at : IsFormatterAt ids o f) (h : exponent_form f f.options.notation ≡ Some form) (can : CanRead f) where
-  alone : f.outer ≡ OuterTexts.None
-  alone = (can_read f form h can.undo.0.0).0
+  numbers : HasNumbers f
+  numbers =
+      has_numbers f
+      (λ standard. absurd (let none : None ≡ Some form = (λ i. exponent_form f (sym standard i)) ∙ h in cc))
+      can.undo.1
 
   keeps : KeepsNotation f.digits × CanReadExponent f.style.symbols form
-  keeps = (can_read f form h can.undo.0.0).1
-
-  abbrev pattern : Sign → NumberPattern
-  pattern s = pattern_at f (None, s)
-
-  listed : (s : Sign) → Contains (patterns_of f) (pattern s)
-  listed s =
-      in_map (pattern_at f) (keys_by f.outer) (None, s)
-      (none_key f (no_words f f.options.notation f.options.style form h) alone PluralCategory.Other s s refl).listed
+  keeps = can_read f form h can.undo.0.0
 
   own : f.notation ≡ notation_of form
   own =
@@ -124,21 +129,6 @@ module _ (ids : FormatterIds) (o : NumberOptions) (f : NumberFormatter) (form : 
         shown_numeral f.style.symbols form f.options.grouping u.absolute (shown_value f v u valid shown)
         shown.number.exponent keeps.1 has_exponent.1 has_exponent.0
 
-    text_is : (text : List ℕ) → IsNumberText f v text → text ≡ between (pattern u.sign) body
-    text_is text is = formatter_text f form h v u text alone can.undo.0.1 can.undo.0.2 can.undo.1 is shown
-
-    is_split : (text : List ℕ) → IsNumberText f v text
-        → IsSplit f.style.symbols (patterns_of f) None text (pattern u.sign) body
-    is_split text is = record {
-      listed = listed u.sign;
-      allowed = tt;
-      between = record {
-        begins = scientific_begins f.style.symbols form body shown_as is_numeral;
-        ends = scientific_ends f.style.symbols form body shown_as is_numeral;
-        is = text_is text is;
-      };
-    }
-
     exponent_of_shown : scientific.exponent_of shown_as ≡ shown.number.exponent
     exponent_of_shown =
         shown_texts.exponent_is f.style.symbols form f.options.grouping u.absolute (shown_value f v u valid shown)
@@ -149,13 +139,59 @@ module _ (ids : FormatterIds) (o : NumberOptions) (f : NumberFormatter) (form : 
         (number f.style.symbols form f.options.grouping u.absolute (shown_value f v u valid shown) shown.number.exponent
         keeps.1 has_exponent.1 has_exponent.0).2.absolute
 
-    pub reads : (inline : ℕ) (text : List ℕ) (result : Result Decimal ParseError) → IsNumberText f v text
-        → IsReadWithExponent inline (reader_of f) form text result
-        → (result ≡ shifted (reader_of f).shift (shifted shown.number.exponent (Ok u))) ⊎ (result ≡ Err Memory)
-    reads inline text result is read =
-        affixed_reads inline (reader_of f) form f.options.grouping (pattern u.sign) u.absolute shown.number.exponent
-        result (listed u.sign) keeps.1 (shown_value f v u valid shown) has_exponent.1 has_exponent.0
-        (subst (λ t. IsReadWithExponent inline (reader_of f) form t result) (text_is text is) read)
+    module _ (text : List ℕ) (t : IsNumberText f v text) where
+      key : (key : Option PluralCategory × Sign)
+          × IsKeyOf f f.outer t.1.whole (shown_sign f v shown.number.significand) key
+      key =
+          key_of f (no_words f f.options.notation f.options.style form h) t.1.whole
+          (shown_sign f v shown.number.significand) f.outer refl
+
+      abbrev pattern : NumberPattern
+      pattern = pattern_at f key.0
+
+      listed : Contains (patterns_of f) pattern
+      listed = is_listed f key.0 key.1.listed (number_at f numbers key.0.0)
+
+      sign_is : pattern.sign ≡ u.sign
+      sign_is = key.1.sign ∙ sym shown.sign
+
+      text_is : text ≡ between pattern body
+      text_is = formatter_text f form h v u text can.undo.0.1 can.undo.0.2 numbers t shown key.0 key.1
+
+      -- it is the pattern of the category
+      of_exponent : IsOfExponent f.rules u.absolute shown.number.exponent pattern
+      of_exponent =
+          let number : t.1.number ≡ shown.number = some_same _ _ (sym t.1.number_is ∙ shown.number_is) in
+          let operands : outer_operands f v t.1.number ≡ operands_with u.absolute shown.number.exponent =
+          operands_are f f.options.notation form h (whole_number f v) t.1.number
+          ∙ (λ i. operands_with (number i).significand.absolute (number i).exponent)
+          ∙ ap (λ a. operands_with a shown.number.exponent) (sym shown.absolute) in
+          of_category f.rules (operands_with u.absolute shown.number.exponent) t.1.whole
+          (subst (λ x. IsCategoryAt f.rules x t.1.whole) operands t.1.of_whole) key.0.0 key.1.allowed
+
+      is_split : IsSplit f.style.symbols (patterns_of f) None text pattern body
+      is_split = record {
+        listed = listed;
+        allowed = tt;
+        between = record {
+          begins = scientific_begins f.style.symbols form body shown_as is_numeral;
+          ends = scientific_ends f.style.symbols form body shown_as is_numeral;
+          is = text_is;
+        };
+      }
+
+      pub reads : (inline : ℕ) (result : Result Decimal ParseError)
+          → IsReadWithExponent inline (reader_of f) form text result
+          → (result ≡ shifted (reader_of f).shift (shifted shown.number.exponent (Ok u))) ⊎ (result ≡ Err Memory)
+      reads inline result read =
+          let back = affixed_reads inline (reader_of f) form f.options.grouping pattern u.absolute shown.number.exponent
+          result listed keeps.1 (shown_value f v u valid shown) has_exponent.1 has_exponent.0 of_exponent
+          (subst (λ t. IsReadWithExponent inline (reader_of f) form t result) text_is read) in
+          elim back [
+            | inl e ↦ inl (e ∙ ap (λ s. shifted (reader_of f).shift
+                (shifted shown.number.exponent (Ok (record { sign = s; absolute = u.absolute })))) sign_is)
+            | inr e ↦ inr e
+          ]
 
   -- one text is shown of one number
   pub are_unique : (v w x y : Decimal) (text : List ℕ) (valid : IsValue v.absolute) (valid' : IsValue w.absolute)
@@ -164,8 +200,8 @@ module _ (ids : FormatterIds) (o : NumberOptions) (f : NumberFormatter) (form : 
   are_unique v w x y text valid valid' a b p q =
       let s = f.style.symbols in
       let second = is_split w y valid' q text b in
-      let one = only_middle (reader_of f) text can.readable can.named (pattern x.sign) (body v x valid p)
-      (is_split v x valid p text a) (pattern y.sign) (body w y valid' q) second.listed second.between in
+      let one = only_middle (reader_of f) text can.readable can.named (pattern v x valid p text a) (body v x valid p)
+      (is_split v x valid p text a) (pattern w y valid' q text b) (body w y valid' q) second.listed second.between in
       let v_as = shown_as v x valid p in
       let w_as = shown_as w y valid' q in
       let here : IsScientificNumeral s form (body w y valid' q) v_as =
@@ -174,8 +210,9 @@ module _ (ids : FormatterIds) (o : NumberOptions) (f : NumberFormatter) (form : 
       let text' = body w y valid' q in
       let significand = one_significand s can.readable form keeps.1.separator text' v_as w_as here there in
       let exponent = one_exponent s can.readable form keeps.1.separator text' v_as w_as here there in
+      let sign = sym (sign_is v x valid p text a) ∙ one.0.1 ∙ sign_is w y valid' q text b in
       let absolute : x.absolute ≡ y.absolute =
       value_is v x valid p ∙ ap value_of significand ∙ sym (value_is w y valid' q) in (
-        (λ i. record { sign = one.0.1 i; absolute = absolute i }),
+        (λ i. record { sign = sign i; absolute = absolute i }),
         sym (exponent_of_shown v x valid p) ∙ exponent ∙ exponent_of_shown w y valid' q,
       )

@@ -6,7 +6,7 @@ use Rattle.decimal_unsigned.specs.{Unsigned.{Unsigned, IsValue}, declared.error.
 use Rattle.fixed_decimal.specs.Decimal.{Decimal}
 use Rattle.decimal_format.specs.{Symbols.Symbols, Readable.IsReadable, Reading.{Numeral, IsNumeral, IsBeyondLimits, IsWritten, IsRead}, Scanning.value_of}
 use Rattle.decimal_format.proofs.lemmas.reader.{NumeralLaws.texts_by, NumeralTexts.HasDigits}
-use Rattle.number_format.specs.{declared.read.scientific.ExponentForm.ExponentForm, AffixedTexts.shifted, ScientificReading.{ScientificNumeral, exponent_number, exponent_of, IsScientificNumeral, is_beyond_limits, numeral_value, IsValueOrMemory, IsReadScientific, capped_exponent, IsSplit}}
+use Rattle.number_format.specs.{declared.read.scientific.ExponentForm.ExponentForm, AffixedTexts.shifted, ScientificReading.{ScientificNumeral, exponent_of, IsScientificNumeral, is_beyond_limits, numeral_value, IsValueOrMemory, IsReadScientific, IsSplit, HasParts}}
 use Rattle.number_format.proofs.lemmas.read.ScientificTexts.{no_sign_shown}
 
 above_limit : (n : ℕ) → 32768 < n → nat_lt 32768 n ≡ true
@@ -44,12 +44,14 @@ module _ (inline : ℕ) (s : Symbols) (readable : IsReadable s) (front : List �
       let t = texts.reads v valid written in
       subst (HasDigits v) (texts.unique t.0 w t.1 n) t.2
 
+  pub numeral_ok : (w : Numeral) → IsNumeral s front w → (v : Decimal)
+      → IsRead inline (IsNumeral s front) (λ v. IsWritten s v front) (Ok v) → numeral_value w ≡ Ok v
+  numeral_ok w n v is = digits_value v w (has_digits v is.found.0 is.found.1 w n)
+
   -- what is read of a numeral is its value
   pub numeral_read : (w : Numeral) → IsNumeral s front w → (r : Result Decimal ParseError)
       → IsRead inline (IsNumeral s front) (λ v. IsWritten s v front) r → IsValueOrMemory inline w (numeral_value w) r
-  numeral_read w n (Ok v) is =
-      let has = has_digits v is.found.0 is.found.1 w n in
-      inl (sym (digits_value v w has))
+  numeral_read w n (Ok v) is = inl (sym (numeral_ok w n v is))
   numeral_read w n (Err Syntax) is = absurd (is.syntax.0 refl w n)
   numeral_read w n (Err Limit) is =
       let x = is.limit.0 refl in
@@ -72,33 +74,45 @@ module _ (inline : ℕ) (s : Symbols) (readable : IsReadable s) (front : List �
       let x = is.memory refl in
       let t = (texts_by true s readable front).reads x.0 x.1 x.2 in (t.0, t.1)
 
-  -- a text that was split, whose significand was read
-  pub read_split : (f : ExponentForm) (bytes : List ℕ) (number : ℤ) (r result : Result Decimal ParseError)
-      → IsSplit s f bytes front number
-      → ((w : ScientificNumeral) → IsScientificNumeral s f bytes w → IsNumeral s front w.significand
-      × (number ≡ capped_exponent (exponent_of w)))
-      → IsRead inline (IsNumeral s front) (λ v. IsWritten s v front) r
-      → ((e : ℤ) → number ≡ capped_exponent e → result ≡ shifted e r) → IsReadScientific inline s f bytes result
-  read_split f bytes number r result split unique read is = record {
-    found = λ other.
-        let x = numeral_found r read
-        (λ syntax. other (is (exponent_number split.sign split.digits) split.number_is
-        ∙ ap (shifted (exponent_number split.sign split.digits)) syntax)) in (
-          record { significand = x.0; sign = split.sign; exponent = split.digits },
-          record {
-            front = front;
-            back = split.back;
-            text = split.text;
-            significand = x.1;
-            unsigned = no_sign_shown s readable front x.0 split.begins x.1;
-            exponent = split.exponent;
-            notation = split.notation x.0 x.1;
-          },
-        );
-    value = λ w n.
-        let u = unique w n in
-        elim (numeral_read w.significand u.0 r read) [
-          | inl e ↦ inl (is (exponent_of w) u.1 ∙ ap (shifted (exponent_of w)) e)
-          | inr m ↦ inr (is (exponent_of w) u.1 ∙ ap (shifted (exponent_of w)) m.0, m.1)
-        ];
-  }
+  -- ---- A text that was split.
+
+  module _ (f : ExponentForm) (bytes : List ℕ) (number : ℤ) (split : IsSplit s f bytes front number) where
+    abbrev with_exponent : Numeral → ScientificNumeral
+    with_exponent w = record { significand = w; sign = split.sign; exponent = split.digits }
+
+    is_scientific : (w : Numeral) → IsNumeral s front w → IsScientificNumeral s f bytes (with_exponent w)
+    is_scientific w n = record {
+      front = front;
+      back = split.back;
+      text = split.text;
+      significand = n;
+      unsigned = no_sign_shown s readable front w split.begins n;
+      exponent = split.exponent;
+      notation = split.notation w n;
+    }
+
+    -- its significand was read
+    pub split_parts : (v : Decimal) → IsRead inline (IsNumeral s front) (λ v. IsWritten s v front) (Ok v)
+        → HasParts s f bytes v number
+    split_parts v read =
+        let x = numeral_found (Ok v) read (λ e. absurd (cc)) in record {
+          valid = read.found.0;
+          numeral = with_exponent x.0;
+          text = is_scientific x.0 x.1;
+          significand_is = numeral_ok x.0 x.1 v read;
+          exponent_is = split.number_is;
+        }
+
+    -- its significand was not read
+    pub split_error : (e : ParseError)
+        → ((w : ScientificNumeral) → IsScientificNumeral s f bytes w → IsNumeral s front w.significand)
+        → IsRead inline (IsNumeral s front) (λ v. IsWritten s v front) (Err e)
+        → IsReadScientific inline s f bytes (Err e)
+    split_error e unique read = record {
+      found = λ other.
+          let x = numeral_found (Err e) read other in (with_exponent x.0, is_scientific x.0 x.1);
+      value = λ w n. elim (numeral_read w.significand (unique w n) (Err e) read) [
+        | inl same ↦ inl (ap (shifted (exponent_of w)) same)
+        | inr memory ↦ inr memory
+      ];
+    }

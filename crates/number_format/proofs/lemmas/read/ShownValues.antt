@@ -1,11 +1,11 @@
 -- What a formatter shows of a value is a value.
 use Rattle.std.proofs.{Common.{◌≡◌, ℕ, suc, ◌+◌, ◌-◌, ◌*◌, ◌/◌, ◌%◌, ◌^◌, ◌<◌, ◌≤◌, Bool, true, false, inl, inr, refl, sym, ◌∙◌, ap, subst, arith, mod-lt, mod-eq_of_lt, mul_assoc, mul-div_cancel, mul-lt-mul_of_pos_right, div-lt_iff_lt-mul, div-add-mod'}, Math.Nat.{mul-mod_left, pow-le-pow_right}, lemmas.{Bool.cases_lt, Int.{ints, clamps}}}
-use Rattle.std.specs.{Prelude.{Option, Some, None, option_and_then, if◌then◌else◌, ℤ, pos, negsuc, ◌+ℤ◌, ◌-ℤ◌, ◌≤ℤ◌, int_lt}, Int.{int_max, int_min}}
+use Rattle.std.specs.{Prelude.{Option, Some, None, option_and_then, if◌then◌else◌, ℤ, pos, negsuc, ◌+ℤ◌, ◌-ℤ◌, ◌≤ℤ◌, int_lt}, Int.{int_max, int_min}, Option.option_map_or}
 use Rattle.decimal_digits.specs.Number.{offset, weight, first, last, number_limit, lowest_magnitude}
 use Rattle.decimal_unsigned.specs.{Edits.{leaves_limits, multiplied, multiplied_pow10}, Unsigned.{Unsigned, IsValue}}
 use Rattle.fixed_decimal.specs.Decimal.{Decimal, with_absolute}
 use Rattle.fixed_decimal.proofs.Calling.{powers, offset_is, ten_pos, extent, first_of, last_of, first_le, last_zero}
-use Rattle.number_format.specs.{declared.{digits.options.{DigitOptions.DigitOptions, TrailingZeros.{TrailingZeros, TheVariants.{Auto, StripIfInteger}}}, format.formatter.NumberFormatter.NumberFormatter, notation.Notation.Notation}, NumberReading.IsShownAs, NumberText.{rounded_in, shown_number}, Scaled.{ScaledValue, scaled_value, Settled, base_exponent, raised as raised_to, written, settled, scaled}, ShownDigits.{padded, stripped, shown}}
+use Rattle.number_format.specs.{declared.{digits.options.{DigitOptions.DigitOptions, TrailingZeros.{TrailingZeros, TheVariants.{Auto, StripIfInteger}}}, format.formatter.NumberFormatter.NumberFormatter, notation.Notation.Notation}, NumberReading.IsShownAs, NumberText.{number_before_cut, rounded_by, rounded_in, shown_number}, Scaled.{ScaledValue, scaled_value, Settled, base_exponent, raised as raised_to, written, settled, scaled}, ShownDigits.{padded, stripped, shown}}
 
 -- a power of ten divides a number that ends with no fewer zeros
 ends_low : (n factor bottom low : ℕ) → low ≤ bottom → n ≡ factor * 10 ^ bottom → n % 10 ^ low ≡ 0
@@ -182,16 +182,24 @@ rounded_value notation None v x valid e =
     subst IsValue (ap (λ (s : ScaledValue). s.significand.absolute) (chosen false (scaled_value v (pos 0)) x e)) valid
 rounded_value notation (Some o) v x valid e = scaled_value_is notation o v x e
 
--- the number before it is rounded is a value
+-- the number before it is rounded is a value, and its sign is shown by what it is rounded to
 pub scaled_first : (f : NumberFormatter) (v : Decimal) (x : ScaledValue) → IsValue v.absolute
-    → shown_number f v ≡ Some x → (w : Decimal) × IsValue w.absolute × (rounded_in f.notation f.digits w ≡ Some x)
+    → shown_number f v ≡ Some x
+    → (w : Decimal) × IsValue w.absolute × (rounded_in f.notation f.digits w ≡ Some x)
+    × (number_before_cut f v ≡ rounded_by f.notation f.digits w)
 scaled_first f v x valid is = go (multiplied_pow10 v.absolute f.options.scale) refl is
   where
     go : (a : Option Unsigned) → multiplied_pow10 v.absolute f.options.scale ≡ a
         → option_and_then (rounded_in f.notation f.digits) (with_absolute v a) ≡ Some x
         → (w : Decimal) × IsValue w.absolute × (rounded_in f.notation f.digits w ≡ Some x)
+        × (number_before_cut f v ≡ rounded_by f.notation f.digits w)
     go None e h = absurd (cc)
-    go (Some a) e h = (record v { absolute = a }, multiplied_value v.absolute valid a f.options.scale e, h)
+    go (Some a) e h = (
+      record v { absolute = a },
+      multiplied_value v.absolute valid a f.options.scale e,
+      h,
+      ap (λ x. option_map_or (rounded_by f.notation f.digits) (with_absolute v x) 0) e,
+    )
 
 pub shown_value : (f : NumberFormatter) (v u : Decimal) → IsValue v.absolute → IsShownAs f v u → IsValue u.absolute
 shown_value f v u valid shown =

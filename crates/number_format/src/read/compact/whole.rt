@@ -29,7 +29,8 @@ fn begins_with_digit(symbols: &DecimalSymbols<'_>, text: &[u8]) -> bool
     false
 }
 
-fn has_no_digit(symbols: &DecimalSymbols<'_>, text: &[u8]) -> bool
+/// Returns whether no digit is in a text.
+pub(crate) fn has_no_digit(symbols: &DecimalSymbols<'_>, text: &[u8]) -> bool
     ensures { IsTrue result ↔ HasNoDigit symbols.now text.now }
 {
     if begins_with_digit(symbols, text) {

@@ -1,11 +1,11 @@
-use Rattle.std.proofs.Common.{◌∙◌}
-use Rattle.number_format.specs.{NumberReading.outer_at, PatternTexts.pattern_around}
-use Rattle.number_format.proofs.lemmas.read.PatternLists.{joined_are}
+use Rattle.std.proofs.Common.{◌∙◌, ap}
+use Rattle.std.specs.Prelude.{Option}
+use Rattle.fixed_decimal.specs.declared.variations.Sign.{Sign}
+use Rattle.plural_rules.specs.declared.rules.PluralCategory.{PluralCategory}
+use Rattle.number_format.specs.NumberReading.{pattern_at}
 use Rattle.number_format.proofs.format.formatter.NumberFormatter.pattern_texts.Goals as goal
 
 pub returns : goal.returns
 returns c =
-    let f = c.args.self.now in
-    c.joined_texts.ensures
-    ∙ joined_are c.outer_at.result c.affixes.result (outer_at f c.args.key.0) (pattern_around f.style c.args.key.1)
-    c.outer_at.ensures c.affixes.ensures
+    c.texts_at.ensures
+    ∙ ap (λ (k : Option PluralCategory × Sign). (pattern_at c.args.self.now k).affixes) c.number_key.ensures

@@ -10,7 +10,7 @@ abbrev IsApart : Symbols → Option ExponentForm → Type 0
 IsApart s x = IfSome x (λ form. IsSeparatorApart s form.separator.now)
 
 apart_by : (f : NumberFormatter) (x : Option ExponentForm) → CanReadExponents f x → IsApart f.style.symbols x
-apart_by f (Some form) can = can.1.1.separator
+apart_by f (Some form) can = can.1.separator
 apart_by f None can = absurd can
 
 -- a notation with words has no exponents

@@ -13,9 +13,10 @@ returns-in-Some g c =
     let result = c.read_lenient_with_exponent.result in
     let all = c.args.alternatives.now in
     let text = c.args.text.now in
-    subst (λ (r : NumberReader). IsTypedBy g.D.DigitStore.L r.texts r.exponent r.words all text result) c.self.view_is
-    (subst (λ (x : Option ExponentForm). IsTypedBy g.D.DigitStore.L c.self.inside.reader x c.self.inside.words all text
-    result)
+    subst (λ (r : NumberReader). IsTypedBy g.D.DigitStore.L r.units r.texts r.exponent r.words all text result)
+    c.self.view_is
+    (subst (λ (x : Option ExponentForm). IsTypedBy g.D.DigitStore.L c.self.inside.units c.self.inside.reader x
+    c.self.inside.words all text result)
     (sym c.in-Some.is) c.read_lenient_with_exponent.ensures)
 
 pub returns-in-None : goal.returns-in-None
@@ -24,6 +25,6 @@ returns-in-None g c =
     let all = c.args.alternatives.now in
     let text = c.args.text.now in
     let none = ap (λ (x : NumberReader). x.exponent) (sym c.self.view_is) ∙ c.in-None.is in
-    subst (λ (x : Option ExponentForm). IsTypedBy g.D.DigitStore.L r.texts x r.words all text c.read_typed_words.result)
-    (sym none)
-    c.read_typed_words.ensures
+    subst (λ (x : Option ExponentForm). IsTypedBy g.D.DigitStore.L r.units r.texts x r.words all text
+    c.read_typed_words.result)
+    (sym none) c.read_typed_words.ensures

@@ -1,4 +1,4 @@
-use Rattle.std.proofs.Common.{None, sym, subst}
+use Rattle.std.proofs.Common.{None, sym, ◌∙◌, ap, subst}
 use Rattle.std.specs.Prelude.{Option}
 use Rattle.locale_data.specs.declared.compact.CompactStyle.{CompactStyle}
 use Rattle.number_format.specs.{declared.format.formatter.NumberFormatter.NumberFormatter, NumberReading.{NumberReader, IsReadBy}}
@@ -8,16 +8,15 @@ pub returns-in-Some : goal.returns-in-Some
 returns-in-Some g c =
     let result = c.read.result in
     let text = c.args.text.now in
-    subst (λ (r : NumberReader). IsReadBy g.D.DigitStore.L r.texts None r.words text result) c.self.view_is
-    (subst (λ (x : Option (NumberFormatter × CompactStyle)). IsReadBy g.D.DigitStore.L c.self.inside.reader None x text
-    result)
+    subst (λ (r : NumberReader). IsReadBy g.D.DigitStore.L r.units r.texts None r.words text result) c.self.view_is
+    (subst (λ (x : Option (NumberFormatter × CompactStyle)). IsReadBy g.D.DigitStore.L c.self.inside.units
+    c.self.inside.reader None x text result)
     (sym c.in-Some.is) c.read.ensures)
 
 pub returns-in-None : goal.returns-in-None
 returns-in-None g c =
-    let result = c.read-in-None.result in
-    let text = c.args.text.now in
-    subst (λ (r : NumberReader). IsReadBy g.D.DigitStore.L r.texts None r.words text result) c.self.view_is
-    (subst (λ (x : Option (NumberFormatter × CompactStyle)). IsReadBy g.D.DigitStore.L c.self.inside.reader None x text
-    result)
-    (sym c.in-None.is) c.read-in-None.ensures)
+    let r = c.args.self.now in
+    let none = ap (λ (x : NumberReader). x.words) (sym c.self.view_is) ∙ c.in-None.is in
+    subst (λ (x : Option (NumberFormatter × CompactStyle)). IsReadBy g.D.DigitStore.L r.units r.texts None x
+    c.args.text.now c.read_standard.result)
+    (sym none) c.read_standard.ensures
