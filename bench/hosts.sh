@@ -7,11 +7,19 @@
 #   bench/hosts.sh [LINES]        by default 5000000
 #
 # It proves what the gate has not built of the same sources; WORK, a folder outside the project, takes what is built in
-# Rattle. It needs cargo, libicu-dev, pkg-config, python3-distributed and python3-babel, and four idle processors.
+# Rattle. It needs cargo, gcc, libicu-dev, pkg-config, sqlite3, libsqlite3-dev, python3-distributed, python3-babel, and
+# pip and the headers of that Python; and four idle processors.
 set -euo pipefail
 . "$(dirname -- "$0")/../diff/build.sh"
 cd "$project"
 lines=${1:-5000000}
+for python in python3 /usr/bin/python3 ''; do
+  ! "${python:-false}" -c 'import distributed' 2> /dev/null || break
+done
+if [ -z "$python" ]; then
+  echo 'not run: python3-distributed'
+  exit 1
+fi
 room=$(mktemp -d)
 others=()
 # A worker whose scheduler has ended does not always end at SIGTERM.
@@ -92,9 +100,6 @@ for scan in "${!scans[@]}"; do
     END { printf "|`%s`|%d|%.2f|\n", name, least[scan], least[scan] / least[0] }' "$room/times"
 done
 
-for python in python3 /usr/bin/python3; do
-  ! "$python" -c 'import distributed' 2> /dev/null || break
-done
 "$python" -m pip install --no-index --quiet --target "$room/python" ./python
 PYTHONPATH=$room/python "$python" python/tests/bench.py "$program"
 printf '\n|Column|lines a second|\n|---|---|\n'

@@ -21,6 +21,7 @@ seq -f '%.3f' 1 0.125 5000 > numbers
 sed '20000s/.*/seven/' numbers > wrong
 printf '1.005\n2.5' > end
 : > empty
+head -n 1 short.csv | tr -d '\n' > bare.csv
 mkfifo pipe
 mark=$'\xef\xbb\xbf' separator=$'\xe2\x80\xa8'
 # Lines that begin with a byte order mark, one of them after another, and one that fails.
@@ -115,6 +116,7 @@ rows() {
   row 'blocks that begin inside a line' 1001 numbers -- $half_even
   row 'two files, an empty one, and a last line without a line feed' 70000 numbers empty end -- $half_even
   row 'a header and a field in CSV' 100000 table.csv short.csv -- header csv field:2 $half_even
+  row 'a header alone without a line feed' 100000 short.csv bare.csv -- header csv field:2 $half_even
   row 'a file twice' 100000 short.csv empty short.csv -- header csv field:price $half_even
   row 'a line that fails in the third block' 50000 wrong -- $half_even
   row 'lines that fail and are skipped' 50000 wrong end -- skip $half_even

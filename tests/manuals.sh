@@ -26,7 +26,7 @@ has() {
   for word in "${@:2}"; do
     grep -qF -- "$word" "$room/$1.text" || lacking+=("$word")
   done
-  [ ${#lacking[@]} = 0 ] && [ $# -gt 1 ]
+  [ ${#lacking[@]} = 0 ] && [ $# -gt 10 ]
   judge $? "$1: $# words, lacks ${lacking[*]:-}"
 }
 

@@ -325,9 +325,10 @@ def header_of(options):
         return b""
     headers = [(path, line) for path, line, _ in found if line]
     for path, line in headers:
-        if line != headers[0][1]:
+        # A file that is its header alone may end without a line feed.
+        if line.rstrip(b"\n") != headers[0][1].rstrip(b"\n"):
             raise Failure(f"{path}: another header", 1)
-    return headers[0][1] if headers else b""
+    return max((line for _, line in headers), key=len, default=b"")
 
 
 def make_folder(path):

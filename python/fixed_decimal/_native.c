@@ -201,21 +201,6 @@ static PyObject *run(const uint8_t *text, size_t count, const fd_call *calls, si
     return fail_text(answer.status, answer.at, text, count);
 }
 
-/* The digits of an int. An int with more bits than 10^32768 is rejected before its digits are made. */
-static PyObject *text_of_int(PyObject *value) {
-    int is_long;
-    PyLong_AsLongLongAndOverflow(value, &is_long);
-    if (is_long) {
-        PyObject *bits = PyObject_CallMethod((PyObject *)&PyLong_Type, "bit_length", "O", value);
-        if (!bits) return NULL;
-        size_t count = PyLong_AsSize_t(bits);
-        Py_DECREF(bits);
-        if (count == (size_t)-1 && PyErr_Occurred()) return NULL;
-        if (count > MOST_BITS) return fail(FD_LIMIT, 0);
-    }
-    return PyNumber_ToBase(value, 10);
-}
-
 /* What a module has by a name, imported at first use and kept: a borrowed reference. */
 static PyObject *imported(PyObject **kept, const char *module_name, const char *name) {
     if (!*kept) {
@@ -258,6 +243,25 @@ static PyObject *text_of_decimal(PyObject *value) {
     if (text) fail_str(FD_LIMIT, 0, text);
     Py_XDECREF(text);
     return NULL;
+}
+
+/* The digits of an int. An int with more bits than 10^32768 is rejected before its digits are made. Those of a long int
+ * are made by decimal.Decimal, since Python may refuse to write more than 640 digits (sys.set_int_max_str_digits). */
+static PyObject *text_of_int(PyObject *value) {
+    int is_long;
+    PyLong_AsLongLongAndOverflow(value, &is_long);
+    if (!is_long) return PyNumber_ToBase(value, 10);
+    PyObject *bits = PyObject_CallMethod((PyObject *)&PyLong_Type, "bit_length", "O", value);
+    if (!bits) return NULL;
+    size_t count = PyLong_AsSize_t(bits);
+    Py_DECREF(bits);
+    if (count == (size_t)-1 && PyErr_Occurred()) return NULL;
+    if (count > MOST_BITS) return fail(FD_LIMIT, 0);
+    if (count < 2000) return PyNumber_ToBase(value, 10);
+    PyObject *type = python_decimal(), *made = type ? PyObject_CallFunctionObjArgs(type, value, NULL) : NULL;
+    PyObject *text = made ? text_of_decimal(made) : NULL;
+    Py_XDECREF(made);
+    return text;
 }
 
 /* Why a float is no number of a Decimal, and what to write. */
@@ -1454,8 +1458,15 @@ static int bind_call(Work *work, PyObject *word) {
     if (found.status != FD_OK || found.kind != FD_CALL_WORD)
         return PyErr_Format(PyExc_ValueError, "no such call: %U", word), 0;
     found.call.text_start += work->texts.count;
+    if (!append(&work->texts, bytes, (size_t)count)) return 0;
+    /* An operand that is no decimal would fail with each text: it is rejected as a word is. */
+    uint8_t zero = '0', room[1];
+    const uint8_t *texts = (const uint8_t *)work->texts.bytes;
+    fd_result tried = fd_run(&zero, 1, &found.call, 1, texts, work->texts.count, room, 0);
+    if (tried.status == FD_OPERAND_SYNTAX || tried.status == FD_OPERAND_LIMIT)
+        return fail_str(tried.status, work->call_count, word), 0;
     work->calls[work->call_count++] = found.call;
-    return append(&work->texts, bytes, (size_t)count);
+    return 1;
 }
 
 /* Converts the texts of a list by blocks, in as many threads as there are processors. */

@@ -116,7 +116,7 @@ kept_number_options = functools.lru_cache(256, typed=True)(number_options)
 
 
 @functools.lru_cache(64, typed=True)
-def kept_number_format(locale, skeleton=None, **options):
+def kept_number_format(locale, /, skeleton=None, **options):
     """Returns `NumberFormat(..)` of these arguments, which are equal only to themselves."""
     return NumberFormat(locale, skeleton=skeleton, **options)
 

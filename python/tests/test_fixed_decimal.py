@@ -207,7 +207,9 @@ def test_numbers(cases):
     check(time.process_time() - start < 2, "at once", time.process_time() - start)
     if hasattr(sys, "set_int_max_str_digits"):
         before = sys.get_int_max_str_digits()
-        raises(ValueError, lambda: Decimal(10**5000))
+        sys.set_int_max_str_digits(640)
+        check(str(Decimal(-10**5000)) == "-1" + "0" * 5000, "an int of more digits than Python writes")
+        check(column([10**5000, "1"], errors="skip") == ["1" + "0" * 5000, "1"], "such an int in a column")
         sys.set_int_max_str_digits(0)
         check(str(Decimal(1 - 10**32768)) == "-" + "9" * 32768, "the greatest int")
         for value in (10**32768, -(10**32768), (1 << 108853) - 1, 1 << 108853):
@@ -1007,6 +1009,9 @@ def test_column(cases):
     check(column(["12.5%"], read="en", format="de", **both) == ["12,5\xa0%"], "both")
     check(column(["1 234,5"], read="fr", lenient=True) == ["1234.5"], "lenient")
     check(column(["12", "7"], "concat:0.5", "concat:0.005") == ["12.505", "7.505"], "operands")
+    for errors in ("raise", "skip", "keep"):
+        raises(DecimalError, lambda: column(["1", "2"], "shift:1", "concat:x", errors=errors), "operand syntax")
+        raises(DecimalError, lambda: column([], "concat:1e40000", errors=errors), "operand limit")
     check(column(["1"] * 5, "pad-end:-32768") == ["1." + "0" * 32768] * 5, "long")
     check(column([], "trim-end") == [] and column(iter(["1"])) == ["1"], "empty")
     for error, call in (

@@ -5,7 +5,10 @@ use crate::number_options::Options;
 use std::hash::{Hash, Hasher};
 use std::mem;
 use std::ops::Deref;
+use std::sync::Once;
 
+/// The version of the interface that the structs below are of.
+const VERSION: u32 = 8;
 const OK: u32 = 0;
 const BUFFER_TOO_SMALL: u32 = 8;
 const PARTS_TOO_SMALL: u32 = 23;
@@ -100,7 +103,6 @@ struct FdParted {
 }
 
 extern "C" {
-    #[cfg(test)]
     fn fd_version() -> u32;
     #[rustfmt::skip]
     fn fd_run(
@@ -191,6 +193,7 @@ impl Text {
 
     /// The text of the decimal that `start` writes.
     pub(crate) fn new(start: &[u8]) -> Result<Text, Failure> {
+        check_version();
         let mut text = Text::EMPTY;
         text.set(start, &[], &[])?;
         Ok(text)
@@ -267,14 +270,26 @@ pub(crate) fn unit_name(number: u8) -> String {
     }
 }
 
+/// Panics if the library that was linked has another version of the interface, whose structs may differ.
+fn check_version() {
+    static CHECKED: Once = Once::new();
+    CHECKED.call_once(|| {
+        // SAFETY: it takes nothing.
+        let found = unsafe { fd_version() };
+        assert!(found == VERSION, "the C library has version {found} of its interface, not {VERSION}");
+    });
+}
+
 /// Makes a formatter of a locale and options.
 pub(crate) fn formatter_by_options(locale: &str, options: &Options) -> Result<FdFormatter, Failure> {
+    check_version();
     // SAFETY: the pointers are those of a slice of the length beside it, and of a struct as the library has it.
     formatter(unsafe { fd_formatter_by_options(locale.as_ptr(), locale.len(), options) })
 }
 
 /// Makes a formatter of a locale and a number skeleton.
 pub(crate) fn formatter_by_skeleton(locale: &str, skeleton: &str) -> Result<FdFormatter, Failure> {
+    check_version();
     // SAFETY: each pointer is that of a slice of the length beside it.
     let made =
         unsafe { fd_formatter_by_skeleton(locale.as_ptr(), locale.len(), skeleton.as_ptr(), skeleton.len()) };
@@ -465,7 +480,7 @@ mod tests {
     #[test]
     fn structs_are_those_of_the_library() {
         // SAFETY: the function takes nothing.
-        assert_eq!(unsafe { super::fd_version() }, 8);
+        assert_eq!(unsafe { super::fd_version() }, super::VERSION);
         // The sizes that gcc gives the structs of this version.
         assert_eq!([size_of::<FdFormatter>(), size_of::<FdMade>(), size_of::<Options>()], [152, 168, 48]);
         assert_eq!([size_of::<FdForms>(), size_of::<FdForm>(), size_of::<FdCall>()], [96, 48, 24]);

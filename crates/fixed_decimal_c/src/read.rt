@@ -19,7 +19,7 @@ fn error_of_reader(error: NumberReaderError) -> FdError
         | NumberReaderError::NoNumber(_)
         | NumberReaderError::Scale
         | NumberReaderError::Symbols
-        | NumberReaderError::Affixes => FdError::UnreadableFormat,
+        | NumberReaderError::Affixes(_, _) => FdError::UnreadableFormat,
     }
 }
 

@@ -5,7 +5,7 @@ use Rattle.fixed_decimal.specs.Decimal.{Decimal, with_absolute}
 use Rattle.plural_rules.specs.{Operands.plain, declared.rules.PluralCategory.PluralCategory}
 use Rattle.locale_data.specs.{Plurals.IsCategoryAt, declared.plurals.PluralRulesId.PluralRulesId}
 use Rattle.decimal_format.specs.{Alternatives.{IsNumeralOfFirst, IsWrittenOfFirst}, Formatted.absolute_text, Lenient.normalized, Readable.{BeginsWithDigit, EndsWithDigit}, Reading.{Numeral, AreDigits, IsRead, absolute_numeral_text, separated_by}, Symbols.{Symbols, Affixes}, declared.{grouping.GroupingStrategy.GroupingStrategy, reader.alternatives.Alternative.Alternative}}
-use Rattle.number_format.specs.declared.read.pattern.NumberPattern.{NumberPattern}
+use Rattle.number_format.specs.declared.read.{pattern.NumberPattern.NumberPattern, pattern_name.PatternName.PatternName}
 
 -- ---- Patterns.
 
@@ -35,6 +35,19 @@ AreToldApart s p q = AreSame p q ⊎ ArePairApart s p.affixes q.affixes
 -- a text is around a number by one pattern, which names the sign: each two are told apart
 pub record AreNamed (s : Symbols) (patterns : List NumberPattern) : Type 0 where
   pub pair : (p q : NumberPattern) → Contains patterns p → Contains patterns q → AreToldApart s p q
+
+-- what the texts of a pattern say of a number
+abbrev pub name_of : NumberPattern → PatternName
+name_of p = record { category = p.category; sign = p.sign; exponent = p.exponent }
+
+-- the pattern and one of these are not told apart, and have these names
+abbrev pub ClashesWith : Symbols → NumberPattern → (NumberPattern → Type 0) → PatternName × PatternName → Type 0
+ClashesWith s p Is names =
+    (q : NumberPattern) × Is q × (names ≡ (name_of p, name_of q)) × ¬ AreToldApart s p q
+
+-- two of these patterns are not told apart, and have these names
+abbrev pub HasClash : Symbols → (NumberPattern → Type 0) → PatternName × PatternName → Type 0
+HasClash s Is names = (p : NumberPattern) × Is p × ClashesWith s p Is names
 
 -- numbers of the category may be between the texts of the pattern; without a category all numbers
 abbrev pub Allows : Option PluralCategory → NumberPattern → Type 0

@@ -302,6 +302,23 @@ HasTextsOf f style p k =
     (has_number_at f style k ≡ true)
     × ((whole : PluralCategory) × (p.affixes ≡ (word_pattern f style (record k { whole = whole })).affixes))
 
+-- the magnitude of a significand times the power of ten of the pattern has this power of ten
+abbrev pub HasPowerOf : NumberFormatter → Unsigned → NumberPattern → Type 0
+HasPowerOf f v p = exponent_at f.notation (magnitude_by v p.exponent) ≡ p.exponent
+
+-- the key of the significand by that magnitude, with the sign of the pattern
+pub record IsKeyBy (f : NumberFormatter) (v : Unsigned) (p : NumberPattern) (k : CompactKey) : Type 0 where
+  pub magnitude : k.magnitude ≡ magnitude_by v p.exponent
+  pub power : HasPowerOf f v p
+  pub category : IsCategoryAt f.rules (operands.plain v) k.category
+  pub one : k.is_one ≡ is_unit v
+  pub sign : k.sign ≡ p.sign
+
+-- the pattern has the texts of the key, or without signs those for other numbers than 1
+abbrev pub HasOwnTexts : NumberFormatter → CompactStyle → NumberPattern → CompactKey → Type 0
+HasOwnTexts f style p k =
+    HasTextsOf f style p k ⊎ (HidesSigns f × HasTextsOf f style p (record k { is_one = false }))
+
 -- the significand times the power of ten of the pattern, if it has the texts of the pattern; else `Syntax`
 abbrev pub IsOwnOr : NumberFormatter → CompactStyle → NumberPattern → Decimal → Result Decimal ParseError → Type 0
 IsOwnOr f style p v result =

@@ -3,7 +3,7 @@ use Rattle.std.specs.Prelude.{◌≡◌, ◌⊎◌, ℕ, List, ◌++◌, Option,
 use Rattle.fixed_decimal.specs.Decimal.{Decimal}
 use Rattle.plural_rules.specs.declared.rules.PluralCategory.{PluralCategory}
 use Rattle.locale_data.specs.{declared.locales.LocaleId.LocaleId, Locales.AreRowsOf, RangeFormats.IsRangeFormat}
-use Rattle.number_format.specs.{declared.{format.{formatted_number.FormattedNumber.FormattedNumber, formatter.NumberFormatter.NumberFormatter}, range.{affixes.WideAffixes.WideAffixes, around.RangeAround.RangeAround, form.RangeForm.{RangeForm, TheVariants.{Approximate, Apart}}, formatted_range.{FormattedRange.FormattedRange, RangeSegment.{RangeSegment, TheVariants.{Prefix, Start, Middle, End, Suffix}}, RangeSource.{RangeSource, TheVariants.{Shared, StartRange, EndRange}}}, range_texts.RangeTexts.RangeTexts}}, Formatters.system_text, FormattedNumbers.{around_of, outer_of, pattern_of, IsOuter}, NumberText.{exponent_of, outer_by, AreParts}, PatternTexts.Around, RangeText.{approximate_around, inner_pieces, range_by, range_category, separator_pieces, IsRangeEnd, RangeEnd, RangePieces, ShownRange, range_pieces, text_of_pieces}, TextParts.{Piece, parts_pieces, pieces_text}}
+use Rattle.number_format.specs.{declared.{format.{formatted_number.FormattedNumber.FormattedNumber, formatter.NumberFormatter.NumberFormatter}, range.{affixes.WideAffixes.WideAffixes, around.RangeAround.RangeAround, form.RangeForm.{RangeForm, TheVariants.{Approximate, Apart}}, formatted_range.{FormattedRange.FormattedRange, RangeSegment.{RangeSegment, TheVariants.{Prefix, Start, Middle, End, Suffix}}, RangeSource.{RangeSource, TheVariants.{Shared, StartRange, EndRange}}}, range_texts.RangeTexts.RangeTexts}}, Formatters.system_text, FormattedNumbers.{around_of, inner_text, number_text, outer_of, pattern_of, IsOuter}, NumberText.{exponent_of, outer_by, AreParts}, PatternTexts.Around, RangeText.{approximate_around, inner_pieces, range_by, range_category, separator_pieces, IsRangeEnd, RangeEnd, RangePieces, ShownRange, range_pieces, text_of_pieces}, TextParts.{Piece, parts_pieces, pieces_text}}
 
 -- ---- The texts of a locale.
 
@@ -79,14 +79,23 @@ pub record IsRangeAround (t : FormattedRange) (shown : RangeAround) : Type 0 whe
   pub outer : IsOuter (outer_of t.start) shown.outer
   pub start : AreParts (around_of t.start) shown.start
   pub start_exponent : shown.start_exponent ≡ exponent_of t.start.formatter.now.options.notation t.start.exponent
-  pub end : t.form ≡ Apart → AreParts (around_of t.end) shown.end
+  pub end : AreParts (around_of t.end) shown.end
   pub end_exponent : shown.end_exponent ≡ exponent_of t.end.formatter.now.options.notation t.end.exponent
   pub approximate : t.form ≡ Approximate → AreApproximate t shown.approximate
   pub separator : parts_pieces shown.separator.parts ≡ separator_pieces t.format.separator t.spaced
 
--- the pieces of a segment without what is around the whole text
+-- the pieces of a segment without what is around the whole text, by a form
+abbrev pub pieces_by : FormattedRange → RangeForm → RangeSegment → List Piece
+pieces_by t form = pieces_in (inner_pieces form (shown_range t))
+
+-- by its own form
 abbrev pub inner_range_pieces : FormattedRange → RangeSegment → List Piece
-inner_range_pieces t = pieces_in (inner_pieces t.form (shown_range t))
+inner_range_pieces t = pieces_by t t.form
+
+-- the text of one of two numbers, with its own affixes or without any
+abbrev pub one_text : RangeForm → FormattedNumber → List ℕ
+one_text Apart n = inner_text n
+one_text other n = number_text n
 
 -- the text between the prefix and the suffix
 abbrev pub numbers_text : FormattedRange → List ℕ

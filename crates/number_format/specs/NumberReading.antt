@@ -1,11 +1,11 @@
 -- What a formatter writes, read exactly and as people type it.
-use Rattle.std.specs.{Prelude.{◌≡◌, ◌≢◌, ℕ, ◌⊎◌, true, false, List, [], ◌∷◌, ◌++◌, map, flat_map, codes, Option, None, Some, option_map, Result, Err, ◌-ℤ◌, pos, negsuc, ⊤, if◌then◌else◌}, Str.IsUtf8}
+use Rattle.std.specs.{Prelude.{◌≡◌, ◌≢◌, ℕ, ◌⊎◌, true, false, List, [], ◌∷◌, ◌++◌, map, flat_map, codes, Option, None, Some, option_map, Result, Err, ◌-ℤ◌, pos, negsuc, ⊤, if◌then◌else◌}, List.Contains, Str.IsUtf8}
 use Rattle.decimal_unsigned.specs.declared.error.ParseError.{ParseError, TheVariants.Syntax}
 use Rattle.fixed_decimal.specs.{Decimal.Decimal, declared.variations.Sign.Sign}
 use Rattle.plural_rules.specs.declared.rules.PluralCategory.{PluralCategory}
 use Rattle.decimal_format.specs.{Readable.IsReadable, Symbols.{Affixes, affixes}, declared.reader.alternatives.Alternative.Alternative}
 use Rattle.locale_data.specs.declared.compact.CompactStyle.{CompactStyle}
-use Rattle.number_format.specs.{declared.{digits.options.DigitOptions.DigitOptions, format.{outer.OuterTexts.OuterTexts, formatter.NumberFormatter.NumberFormatter}, options.{DecimalSeparatorDisplay.DecimalSeparatorDisplay, NumberNotation.NumberNotation, NumberStyle.NumberStyle}, read.{pattern.{NumberPattern.NumberPattern, TheConstants.{SIGN_KEYS, CATEGORY_KEYS}}, scientific.ExponentForm.ExponentForm, number_reader.{NumberReaderError.NumberReaderError, ParseMode.{ParseMode, TheVariants.{Strict, Lenient}}}}}, AffixedTexts.{AreNamed, Reader, IsReadExactly, IsReadTyped}, CompactReading.{HasCompactExponents, HasWordNumbers, AreWordsNamed, IsReadInWords}, NumberText.{compact_style, needs_no_integer, outer_by, shown_number, shown_sign}, PatternTexts.{Around, around, affixes_for}, Scaled.{ScaledValue, HasNoIncrement}, ScientificReading.{exponent_form, CanReadExponent}, AffixedExponents.{IsReadWithExponent, IsTypedWithExponent}, TextParts.pieces_text, TypedWords.IsTypedInWords, WholeUnits.{AreCategoriesRead, IsCategoryUnread, IsSaidOr}}
+use Rattle.number_format.specs.{declared.{digits.options.DigitOptions.DigitOptions, format.{outer.OuterTexts.OuterTexts, formatter.NumberFormatter.NumberFormatter}, options.{DecimalSeparatorDisplay.DecimalSeparatorDisplay, NumberNotation.NumberNotation, NumberStyle.NumberStyle}, read.{pattern.{NumberPattern.NumberPattern, TheConstants.{SIGN_KEYS, CATEGORY_KEYS}}, pattern_name.PatternName.PatternName, scientific.ExponentForm.ExponentForm, number_reader.{NumberReaderError.NumberReaderError, ParseMode.{ParseMode, TheVariants.{Strict, Lenient}}}}}, AffixedTexts.{AreNamed, HasClash, Reader, IsReadExactly, IsReadTyped}, CompactReading.{HasCompactExponents, HasWordNumbers, AreWordsNamed, IsPatternOf, IsReadInWords}, NumberText.{compact_style, needs_no_integer, outer_by, shown_number, shown_sign}, PatternTexts.{Around, around, affixes_for}, Scaled.{ScaledValue, HasNoIncrement}, ScientificReading.{exponent_form, CanReadExponent}, AffixedExponents.{IsReadWithExponent, IsTypedWithExponent}, TextParts.pieces_text, TypedWords.IsTypedInWords, WholeUnits.{AreCategoriesRead, IsCategoryUnread, IsSaidOr}}
 
 -- ---- Exactly.
 
@@ -101,6 +101,11 @@ abbrev pub AreOwnWordsNamed : NumberFormatter → Option CompactStyle → Type 0
 AreOwnWordsNamed f (Some style) = AreWordsNamed f style
 AreOwnWordsNamed f None = ⊤
 
+-- two patterns with words are not told apart, and have these names
+abbrev pub HasOwnWordClash : NumberFormatter → Option CompactStyle → PatternName × PatternName → Type 0
+HasOwnWordClash f (Some style) names = HasClash f.style.symbols (IsPatternOf f style true) names
+HasOwnWordClash f None names = ⊥
+
 -- the texts of the formatter are read: a text has at most one sign and one number
 pub record CanRead (f : NumberFormatter) : Type 0 where
   pub undo : CanUndo f
@@ -115,9 +120,9 @@ CannotRead (NumberReaderError.NoNumber c) f = HasPlainDigits f × IsCategoryUnre
 CannotRead NumberReaderError.Scale f = HasPlainDigits f × AreCategoriesRead f × (f.options.scale ≡ negsuc 32767)
 CannotRead NumberReaderError.Memory f = CanRead f
 CannotRead NumberReaderError.Symbols f = CanUndo f × ¬ IsReadable f.style.symbols
-CannotRead NumberReaderError.Affixes f =
-    CanUndo f
-    × (IsReadable f.style.symbols × ¬ (AreNamed f.style.symbols (patterns_of f) × AreOwnWordsNamed f (words_of f)))
+CannotRead (NumberReaderError.Affixes a b) f =
+    CanUndo f × (IsReadable f.style.symbols
+    × (HasClash f.style.symbols (Contains (patterns_of f)) (a, b) ⊎ HasOwnWordClash f (words_of f) (a, b)))
 
 -- u is the number that the formatter shows of v: scaled, rounded, and with the sign that is written
 pub record IsShownAs (f : NumberFormatter) (v u : Decimal) : Type 0 where

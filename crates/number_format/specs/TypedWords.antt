@@ -1,5 +1,5 @@
 -- Words of compact notation as people type them.
-use Rattle.std.specs.{Prelude.{◌≡◌, ◌≢◌, ℕ, zero, suc, ◌*◌, ◌<◌, ◌⊎◌, ◌==◌, Bool, true, not, ◌||◌, List, [], ◌∷◌, ◌++◌, map, filter, length, Option, None, Some, unwrap_or, slice_get, Result, Err, ℤ}, Str.{NonePass, chars, encode_utf8_all}, Char.Unicode.{Numeric.is_numeric, ToLowercase.to_lowercase}}
+use Rattle.std.specs.{Prelude.{◌≡◌, ◌≢◌, ℕ, zero, suc, ◌*◌, ◌<◌, ◌⊎◌, ◌==◌, Bool, true, not, ◌||◌, List, [], ◌∷◌, ◌++◌, map, filter, length, Option, Some, unwrap_or, slice_get, Result, Err, ℤ}, Str.{NonePass, chars, encode_utf8_all}, Char.Unicode.{Numeric.is_numeric, ToLowercase.to_lowercase}}
 use Rattle.decimal_unsigned.specs.declared.error.ParseError.{ParseError, TheVariants.Syntax}
 use Rattle.fixed_decimal.specs.Decimal.{Decimal}
 use Rattle.decimal_format.specs.declared.reader.alternatives.Alternative.{Alternative}

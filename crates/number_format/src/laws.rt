@@ -100,8 +100,8 @@ pub fn formatted_texts_read_back()
         × ((result ≡ shifted (reader_of f).shift (Ok w)) ⊎ (result ≡ Err ParseError.Memory)) }
 {}
 
-/// Of a formatter in standard notation whose texts are read two numbers that are shown have different texts, except 1
-/// or 2 with other zeros if its text has no number.
+/// Two numbers that are shown have different texts, if the formatter is in standard notation and its texts are read.
+/// Only a text without a number may be that of several: of 1, or of 2, with other zeros.
 pub fn formatted_texts_are_unique()
     ensures { (f : NumberFormatter) (v w x y : Decimal) (text : List ℕ) → IsStandard f → CanRead f
         → IsValue v.absolute → IsValue w.absolute → IsNumberText f v text → IsNumberText f w text

@@ -54,14 +54,16 @@ pub use range::format_range::RangeFormatError;
 pub use range::formatted_range::{FormattedRange, RangeSegment, RangeSource};
 pub use range::range_texts::RangeTexts;
 pub use read::number_reader::{NumberReader, NumberReaderError, ParseMode};
+pub use read::pattern_name::PatternName;
 
 // What the options and the functions above mention, so that a caller needs no other crate.
 pub use decimal_format::GroupingStrategy;
 pub use fixed_decimal::{
-    Decimal, ParseError, RoundError, RoundingIncrement, SignDisplay, SignedRoundingMode,
+    Decimal, ParseError, RoundError, RoundingIncrement, Sign, SignDisplay, SignedRoundingMode,
     UnsignedRoundingMode,
 };
 pub use locale_data::{
     CurrencyCode, CurrencyCodeError, CurrencySign, NumberingSystem, NumberingSystemError,
 };
 pub use locale_names::{Unit, UnitDisplay, UnitError, UnitId};
+pub use plural_rules::PluralCategory;

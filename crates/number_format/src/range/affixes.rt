@@ -32,6 +32,14 @@ pub(crate) const NO_AFFIXES: WideAffixes<'static> = WideAffixes {
     suffix: [NOTHING; 10],
 };
 
+/// A number with an approximately sign: its style, and its signs.
+#[derive(Clone, Copy)]
+struct ApproximateNumber<'s> {
+    style: &'s StyleTexts,
+    approximately: ApproximatelySign,
+    sign: Sign,
+}
+
 fn approximately_part(approximately: ApproximatelySign) -> TextPart<'static>
     ensures { part_pieces result ≡ approximately_pieces approximately }
 {
@@ -44,166 +52,124 @@ fn is_sign_last(form: CompactForm) -> bool
     matches!(form, CompactForm::SignLast)
 }
 
-impl StyleTexts {
+impl<'s> ApproximateNumber<'s> {
     /// Returns a piece of a pattern, with the approximately sign before a sign or instead of it.
-    fn approximate_piece(
-        &self,
-        approximately: ApproximatelySign,
-        sign: Sign,
-        piece: Piece,
-    ) -> (TextPart<'_>, TextPart<'_>)
+    fn piece(&self, piece: Piece) -> (TextPart<'s>, TextPart<'s>)
         ensures { part_pieces result.0 ++ part_pieces result.1
-            ≡ approximate_piece self.now approximately sign piece }
+            ≡ approximate_piece self.now.style.now self.now.approximately self.now.sign piece }
     {
-        match (sign, piece) {
-            (Sign::None, Piece::Plus) => (NOTHING, approximately_part(approximately)),
-            (_, Piece::Minus | Piece::Plus) => {
-                (approximately_part(approximately), self.pattern_part(piece))
-            }
-            _ => (NOTHING, self.pattern_part(piece)),
+        let approximately = approximately_part(self.approximately);
+        match (self.sign, piece) {
+            (Sign::None, Piece::Plus) => (NOTHING, approximately),
+            (_, Piece::Minus | Piece::Plus) => (approximately, self.style.pattern_part(piece)),
+            _ => (NOTHING, self.style.pattern_part(piece)),
         }
     }
 
-    fn approximate_pair(&self, sign: Sign) -> AffixPair
-        ensures { result ≡ approximate_affixes self.now.pattern sign }
+    fn pair(&self) -> AffixPair
+        ensures { result ≡ approximate_affixes self.now.style.now.pattern self.now.sign }
     {
-        match sign {
-            Sign::None => self.pattern.plus,
-            _ => self.pattern.affixes(sign),
+        match self.sign {
+            Sign::None => self.style.pattern.plus,
+            _ => self.style.pattern.affixes(self.sign),
         }
     }
 
     /// Returns the pieces of an affix between two parts.
-    fn approximate_parts<'t>(
-        &'t self,
-        approximately: ApproximatelySign,
-        sign: Sign,
-        affix: Affix,
-        before: TextPart<'t>,
-        after: TextPart<'t>,
-    ) -> [TextPart<'t>; 10]
-        ensures { parts_pieces result ≡ part_pieces before.entry ++ (affix_pieces
-            (approximate_piece self.now approximately sign) affix ++ part_pieces after.entry) }
+    fn parts(&self, before: TextPart<'s>, affix: Affix, after: TextPart<'s>) -> [TextPart<'s>; 10]
+        ensures { parts_pieces result ≡ part_pieces before.entry ++ (affix_pieces (approximate_piece
+            self.now.style.now self.now.approximately self.now.sign) affix ++ part_pieces after.entry) }
     {
-        let one = self.approximate_piece(approximately, sign, affix.first);
-        let two = self.approximate_piece(approximately, sign, affix.second);
-        let three = self.approximate_piece(approximately, sign, affix.third);
-        let four = self.approximate_piece(approximately, sign, affix.fourth);
+        let one = self.piece(affix.first);
+        let two = self.piece(affix.second);
+        let three = self.piece(affix.third);
+        let four = self.piece(affix.fourth);
         [
             before, one.0, one.1, two.0, two.1, three.0, three.1, four.0, four.1, after,
         ]
     }
 
-    fn approximate_pattern(&self, approximately: ApproximatelySign, sign: Sign) -> WideAffixes<'_>
-        ensures { AreWideAffixes (approximate_pattern self.now approximately sign) result }
+    fn pattern_affixes(&self) -> WideAffixes<'s>
+        ensures { AreWideAffixes
+            (approximate_pattern self.now.style.now self.now.approximately self.now.sign) result }
     {
-        let AffixPair { prefix, suffix } = self.approximate_pair(sign);
-        let after = space_if(self.needs_space_after(prefix));
-        let before = space_if(self.needs_space_before(suffix));
-        let prefix = self.approximate_parts(approximately, sign, prefix, NOTHING, after);
-        let suffix = self.approximate_parts(approximately, sign, suffix, before, NOTHING);
+        let AffixPair { prefix, suffix } = self.pair();
+        let after = space_if(self.style.needs_space_after(prefix));
+        let before = space_if(self.style.needs_space_before(suffix));
         WideAffixes {
-            prefix,
+            prefix: self.parts(NOTHING, prefix, after),
             has_number: true,
-            suffix,
+            suffix: self.parts(before, suffix, NOTHING),
         }
     }
 
-    /// Returns the approximately sign and a sign, if they are shown.
-    fn approximate_sign(
-        &self,
-        approximately: ApproximatelySign,
-        sign: Sign,
-        shown: bool,
-    ) -> (TextPart<'_>, TextPart<'_>)
+    /// Returns the approximately sign and the sign, if they are shown.
+    fn signs(&self, shown: bool) -> (TextPart<'s>, TextPart<'s>)
         ensures { part_pieces result.0 ++ part_pieces result.1
-            ≡ pieces_if shown (approximately_pieces approximately ++ sign_pieces self.now.symbols sign) }
+            ≡ pieces_if shown (approximately_pieces self.now.approximately
+            ++ sign_pieces self.now.style.now.symbols self.now.sign) }
     {
         if shown {
-            (approximately_part(approximately), self.sign_part(sign))
+            let approximately = approximately_part(self.approximately);
+            (approximately, self.style.sign_part(self.sign))
         } else {
             (NOTHING, NOTHING)
         }
     }
 
-    fn approximate_compact_prefix(
-        &self,
-        approximately: ApproximatelySign,
-        sign: Sign,
-        pattern: &CompactPattern,
-    ) -> [TextPart<'_>; 10]
+    fn compact_prefix(&self, pattern: &CompactPattern) -> [TextPart<'s>; 10]
         requires { AreTexts pattern.now }
-        ensures { parts_pieces result ≡ (approximate_compact self.now approximately sign pattern.now).prefix }
+        ensures { parts_pieces result ≡ (approximate_compact
+            self.now.style.now self.now.approximately self.now.sign pattern.now).prefix }
     {
         let prefix = &pattern.prefix;
         let is_last = is_sign_last(pattern.form);
-        let first = self.approximate_sign(approximately, sign, !is_last);
-        let last = self.approximate_sign(approximately, sign, is_last);
+        let one = self.signs(!is_last);
+        let before = TextPart::new(PartKind::Compact, prefix.before_text());
+        let currency = self.style.currency_if(prefix.has_currency);
+        let after = TextPart::new(PartKind::Compact, prefix.after_text());
+        let space = space_if(self.style.space_after(prefix));
+        let two = self.signs(is_last);
         [
-            first.0,
-            first.1,
-            TextPart::new(PartKind::Compact, prefix.before_text()),
-            self.currency_if(prefix.has_currency),
-            TextPart::new(PartKind::Compact, prefix.after_text()),
-            space_if(self.space_after(prefix)),
-            last.0,
-            last.1,
-            NOTHING,
-            NOTHING,
+            one.0, one.1, before, currency, after, space, two.0, two.1, NOTHING, NOTHING,
         ]
     }
 
-    fn compact_suffix(&self, suffix: &AffixText) -> [TextPart<'_>; 10]
+    fn compact_suffix(&self, suffix: &AffixText) -> [TextPart<'s>; 10]
         requires { has_texts suffix.now ≡ true }
-        ensures { parts_pieces result ≡ compact_suffix self.now suffix.now }
+        ensures { parts_pieces result ≡ compact_suffix self.now.style.now suffix.now }
     {
+        let space = space_if(self.style.space_before(suffix));
+        let before = TextPart::new(PartKind::Compact, suffix.before_text());
+        let currency = self.style.currency_if(suffix.has_currency);
+        let after = TextPart::new(PartKind::Compact, suffix.after_text());
         [
-            space_if(self.space_before(suffix)),
-            TextPart::new(PartKind::Compact, suffix.before_text()),
-            self.currency_if(suffix.has_currency),
-            TextPart::new(PartKind::Compact, suffix.after_text()),
-            NOTHING,
-            NOTHING,
-            NOTHING,
-            NOTHING,
-            NOTHING,
-            NOTHING,
+            space, before, currency, after, NOTHING, NOTHING, NOTHING, NOTHING, NOTHING, NOTHING,
         ]
     }
 
-    fn approximate_compact(
-        &self,
-        approximately: ApproximatelySign,
-        sign: Sign,
-        pattern: &CompactPattern,
-    ) -> WideAffixes<'_>
+    fn compact_affixes(&self, pattern: &CompactPattern) -> WideAffixes<'s>
         requires { AreTexts pattern.now }
-        ensures { AreWideAffixes (approximate_compact self.now approximately sign pattern.now) result }
+        ensures { AreWideAffixes (approximate_compact
+            self.now.style.now self.now.approximately self.now.sign pattern.now) result }
     {
-        let prefix = self.approximate_compact_prefix(approximately, sign, pattern);
-        let suffix = self.compact_suffix(&pattern.suffix);
         WideAffixes {
-            prefix,
+            prefix: self.compact_prefix(pattern),
             has_number: !matches!(pattern.form, CompactForm::Literal),
-            suffix,
+            suffix: self.compact_suffix(&pattern.suffix),
         }
     }
 
-    fn approximate_affixes(
-        &self,
-        approximately: ApproximatelySign,
-        sign: Sign,
-        compact: Option<&CompactPattern>,
-    ) -> WideAffixes<'_>
+    fn affixes(&self, compact: Option<&CompactPattern>) -> WideAffixes<'s>
         requires { IfSome compact (λ pattern. AreTexts pattern.now) }
-        ensures { AreWideAffixes
-            (approximate_around self.now approximately sign (option_copied compact.entry)) result }
+        ensures { AreWideAffixes (approximate_around
+            self.now.style.now self.now.approximately self.now.sign (option_copied compact.entry)) result }
     {
         match compact {
             Some(pattern) if !matches!(pattern.form, CompactForm::Plain) => {
-                self.approximate_compact(approximately, sign, pattern)
+                self.compact_affixes(pattern)
             }
-            _ => self.approximate_pattern(approximately, sign),
+            _ => self.pattern_affixes(),
         }
     }
 }
@@ -214,7 +180,11 @@ impl FormattedNumber<'_> {
         ensures { AreWideAffixes (approximate_around self.now.formatter.now.style approximately
             self.now.value.sign (pattern_of self.now)) result }
     {
-        let style = &self.formatter.style;
-        style.approximate_affixes(approximately, self.value.sign, self.compact_pattern())
+        let number = ApproximateNumber {
+            style: &self.formatter.style,
+            approximately,
+            sign: self.value.sign,
+        };
+        number.affixes(self.compact_pattern())
     }
 }

@@ -20,7 +20,6 @@ pub(crate) struct RangeAround<'r> {
     pub(crate) outer: OuterAround<'r>,
     pub(crate) start: NumberAffixes<'r>,
     pub(crate) start_exponent: Option<Decimal>,
-    /// The affixes of the second number, if it has its own.
     pub(crate) end: NumberAffixes<'r>,
     pub(crate) end_exponent: Option<Decimal>,
     /// The affixes of an approximate number, if the range is one.

@@ -9,7 +9,6 @@ use crate::format::formatted_number::FormattedNumber;
 use crate::format::short_affixes::joined;
 use crate::format::text_part::TextPart;
 use arrayvec::ArrayString;
-use fixed_decimal::Sign;
 
 impl StyleTexts {
     fn without_spaces(&self) -> StyleTexts
@@ -59,17 +58,6 @@ pub(crate) fn characters_around(number: &FormattedNumber<'_>) -> usize
     let style = number.formatter.style.without_spaces();
     let affixes = bare_affixes(&style, number);
     parts_characters(&affixes.prefix) + parts_characters(&affixes.suffix)
-}
-
-fn are_same_signs(first: Sign, second: Sign) -> bool
-    ensures { IsTrue result → first ≡ second }
-{
-    matches!(
-        (first, second),
-        (Sign::None, Sign::None)
-            | (Sign::Negative, Sign::Negative)
-            | (Sign::Positive, Sign::Positive)
-    )
 }
 
 fn are_same_choices(first: CompactChoice, second: CompactChoice) -> bool
@@ -125,9 +113,7 @@ pub(crate) fn have_same_texts(start: &FormattedNumber<'_>, end: &FormattedNumber
     requires { start.now.formatter.now ≡ end.now.formatter.now }
     ensures { result ≡ are_same_texts (bare_around (end_of start.now)) (bare_around (end_of end.now)) }
 {
-    if are_same_signs(start.value.sign, end.value.sign)
-        && are_same_choices(start.choice, end.choice)
-    {
+    if start.value.sign == end.value.sign && are_same_choices(start.choice, end.choice) {
         return true;
     }
     are_equal_texts(start, end)

@@ -1,9 +1,8 @@
 //! A range of two numbers as a locale writes it.
-ghost use Rattle.std.specs.{Prelude.{◌≡◌, ◌++◌, Some, OnOk, OnErr, true}, Io.KnownBytes.Appends};
+ghost use Rattle.std.specs.{Prelude.{◌≡◌, ◌≢◌, ◌++◌, Some, OnOk, OnErr, true}, Io.KnownBytes.Appends};
 ghost use Rattle.decimal_digits.specs.AppendsPrefix.{AppendsPrefix};
-ghost use Rattle.number_format.specs.{declared.range.{form.RangeForm.RangeForm, formatted_range.RangeSegment.RangeSegment}, FormattedNumbers.around_of, FormattedRanges.{AreApproximate, formatted_range_pieces, formatted_range_text, inner_range_pieces, numbers_text, segment_text, source_of, IsRangeAround}, NumberText.AreParts, TextParts.{Puts, PutsPrefix, pieces_text}, TextSpans.{inner_spans_pieces, spans_pieces, spans_text}};
+ghost use Rattle.number_format.specs.{declared.range.{form.RangeForm.RangeForm, formatted_range.RangeSegment.RangeSegment}, FormattedRanges.{AreApproximate, formatted_range_pieces, formatted_range_text, inner_range_pieces, numbers_text, one_text, pieces_by, segment_text, source_of, IsRangeAround}, TextParts.{Puts, PutsPrefix, pieces_text}, TextSpans.{inner_spans_pieces, spans_pieces, spans_text}};
 
-use crate::format::affixes::NumberAffixes;
 use crate::format::formatted_number::FormattedNumber;
 use crate::format::number_spans::{InnerSpans, NO_NUMBER, NO_SPANS};
 use crate::format::parts::{PartSink, push_parts};
@@ -102,28 +101,85 @@ impl<'f> FormattedRange<'f> {
         }
     }
 
-    fn end_affixes<'r>(&'r self, start: NumberAffixes<'r>) -> NumberAffixes<'r>
-        ensures { self.now.form ≡ RangeForm.Apart → AreParts (around_of self.now.end) result }
-    {
-        match self.form {
-            RangeForm::Apart => self.end.affixes(),
-            _ => start,
-        }
-    }
-
     fn around(&self) -> RangeAround<'_>
         ensures { IsRangeAround self.now result }
     {
-        let start = self.start.affixes();
         RangeAround {
             outer: self.start.outer_around(),
-            start,
+            start: self.start.affixes(),
             start_exponent: self.start.shown_exponent(),
-            end: self.end_affixes(start),
+            end: self.end.affixes(),
             end_exponent: self.end.shown_exponent(),
             approximate: self.approximate_affixes(),
             separator: separator_parts(self.format.separator, self.spaced),
         }
+    }
+
+    /// Returns the spans of a segment of two numbers between affixes that both have.
+    fn common_spans<'r>(
+        &'r self,
+        around: &'r RangeAround<'r>,
+        segment: RangeSegment,
+    ) -> InnerSpans<'r>
+        requires { IsRangeAround self.now around.now }
+        ensures { inner_spans_pieces result ≡ pieces_by self.now RangeForm.Common segment }
+    {
+        let affixes = &around.start;
+        let has_number = affixes.has_number;
+        match segment {
+            RangeSegment::Prefix => InnerSpans::between(&affixes.prefix, NO_NUMBER, &[]),
+            RangeSegment::Start => {
+                let number = self.start.number_spans(has_number, &around.start_exponent);
+                InnerSpans::between(&[], number, &[])
+            }
+            RangeSegment::Middle => {
+                InnerSpans::between(&around.separator.parts, NO_NUMBER, &[]).if_shown(has_number)
+            }
+            RangeSegment::End => {
+                let number = self.end.number_spans(has_number, &around.end_exponent);
+                InnerSpans::between(&[], number, &[])
+            }
+            RangeSegment::Suffix => InnerSpans::between(&[], NO_NUMBER, &affixes.suffix),
+        }
+    }
+
+    /// Returns the spans of a segment of two numbers, each with its own affixes.
+    fn apart_spans<'r>(
+        &'r self,
+        around: &'r RangeAround<'r>,
+        segment: RangeSegment,
+    ) -> InnerSpans<'r>
+        requires { IsRangeAround self.now around.now }
+        ensures { inner_spans_pieces result ≡ pieces_by self.now RangeForm.Apart segment }
+    {
+        let (start, end) = (&around.start, &around.end);
+        match segment {
+            RangeSegment::Start => {
+                let number = self
+                    .start
+                    .number_spans(start.has_number, &around.start_exponent);
+                InnerSpans::between(&start.prefix, number, &start.suffix)
+            }
+            RangeSegment::Middle => InnerSpans::between(&around.separator.parts, NO_NUMBER, &[]),
+            RangeSegment::End => {
+                let number = self.end.number_spans(end.has_number, &around.end_exponent);
+                InnerSpans::between(&end.prefix, number, &end.suffix)
+            }
+            _ => NO_SPANS,
+        }
+    }
+
+    /// Returns the spans of an approximate number.
+    fn approximate_spans<'r>(&'r self, around: &'r RangeAround<'r>) -> InnerSpans<'r>
+        requires around { IsRangeAround self.now around.now }
+        requires form { self.now.form ≡ RangeForm.Approximate }
+        ensures { inner_spans_pieces result ≡ inner_range_pieces self.now RangeSegment.Middle }
+    {
+        let affixes = &around.approximate;
+        let number = self
+            .start
+            .number_spans(affixes.has_number, &around.start_exponent);
+        InnerSpans::between(&affixes.prefix, number, &affixes.suffix)
     }
 
     /// Returns the spans of a segment without what is around the whole text.
@@ -135,37 +191,11 @@ impl<'f> FormattedRange<'f> {
         requires { IsRangeAround self.now around.now }
         ensures { inner_spans_pieces result ≡ inner_range_pieces self.now segment }
     {
-        let (affixes, separator) = (&around.start, &around.separator.parts);
-        let start = |shown| self.start.number_spans(shown, &around.start_exponent);
-        let end = |shown| self.end.number_spans(shown, &around.end_exponent);
-        match self.form {
-            RangeForm::Approximate => match segment {
-                RangeSegment::Middle => {
-                    let affixes = &around.approximate;
-                    InnerSpans::between(&affixes.prefix, start(affixes.has_number), &affixes.suffix)
-                }
-                _ => NO_SPANS,
-            },
-            RangeForm::Common => match segment {
-                RangeSegment::Prefix => InnerSpans::between(&affixes.prefix, NO_NUMBER, &[]),
-                RangeSegment::Start => InnerSpans::between(&[], start(affixes.has_number), &[]),
-                RangeSegment::Middle => {
-                    InnerSpans::between(separator, NO_NUMBER, &[]).if_shown(affixes.has_number)
-                }
-                RangeSegment::End => InnerSpans::between(&[], end(affixes.has_number), &[]),
-                RangeSegment::Suffix => InnerSpans::between(&[], NO_NUMBER, &affixes.suffix),
-            },
-            RangeForm::Apart => match segment {
-                RangeSegment::Start => {
-                    InnerSpans::between(&affixes.prefix, start(affixes.has_number), &affixes.suffix)
-                }
-                RangeSegment::Middle => InnerSpans::between(separator, NO_NUMBER, &[]),
-                RangeSegment::End => {
-                    let affixes = &around.end;
-                    InnerSpans::between(&affixes.prefix, end(affixes.has_number), &affixes.suffix)
-                }
-                _ => NO_SPANS,
-            },
+        match (self.form, segment) {
+            (RangeForm::Approximate, RangeSegment::Middle) => self.approximate_spans(around),
+            (RangeForm::Approximate, _) => NO_SPANS,
+            (RangeForm::Common, _) => self.common_spans(around, segment),
+            (RangeForm::Apart, _) => self.apart_spans(around, segment),
         }
     }
 
@@ -200,39 +230,50 @@ impl<'f> FormattedRange<'f> {
         }
     }
 
-    /// Appends two numbers without affixes, and the separator between them.
-    fn put_common_numbers(&self, block: &mut Block) -> Result<(), SinkFault>
-        requires { self.now.form ≡ RangeForm.Common }
+    /// Appends a number, with its affixes if each number has its own.
+    #[inline(always)]
+    fn put_number(&self, number: &FormattedNumber<'_>, block: &mut Block) -> Result<(), SinkFault>
+        ensures { OnOk result (block.new.0 ≡ block.old.0 ++ one_text self.now.form number.now) }
+    {
+        match self.form {
+            RangeForm::Apart => number.put_around(block),
+            _ => number.put_digits(block),
+        }
+    }
+
+    fn put_two_numbers(&self, block: &mut Block) -> Result<(), SinkFault>
+        requires { self.now.form ≢ RangeForm.Approximate }
         ensures { OnOk result (block.new.0 ≡ block.old.0 ++ numbers_text self.now) }
     {
         if !self.start.has_number() {
             return Err(SinkFault);
         }
         let separator = separator_parts(self.format.separator, self.spaced);
-        self.start.put_digits(block)?;
+        self.put_number(&self.start, block)?;
         push_parts(&separator.parts, block)?;
-        self.end.put_digits(block)
+        self.put_number(&self.end, block)
     }
 
-    /// Appends two numbers with their own affixes, and the separator between them.
-    fn put_numbers_apart(&self, block: &mut Block) -> Result<(), SinkFault>
-        requires { self.now.form ≡ RangeForm.Apart }
+    fn put_approximate(&self, block: &mut Block) -> Result<(), SinkFault>
+        requires { self.now.form ≡ RangeForm.Approximate }
         ensures { OnOk result (block.new.0 ≡ block.old.0 ++ numbers_text self.now) }
     {
-        let separator = separator_parts(self.format.separator, self.spaced);
-        self.start.put_around(block)?;
-        push_parts(&separator.parts, block)?;
-        self.end.put_around(block)
+        let affixes = self.start.approximate_affixes(self.format.approximately);
+        if !affixes.has_number {
+            return Err(SinkFault);
+        }
+        push_parts(&affixes.prefix, block)?;
+        self.start.put_digits(block)?;
+        push_parts(&affixes.suffix, block)
     }
 
-    /// Appends what is between the prefix and the suffix, but not that of an approximate number.
+    /// Appends what is between the prefix and the suffix.
     fn put_numbers(&self, block: &mut Block) -> Result<(), SinkFault>
         ensures { OnOk result (block.new.0 ≡ block.old.0 ++ numbers_text self.now) }
     {
         match self.form {
-            RangeForm::Approximate => Err(SinkFault),
-            RangeForm::Common => self.put_common_numbers(block),
-            RangeForm::Apart => self.put_numbers_apart(block),
+            RangeForm::Approximate => self.put_approximate(block),
+            _ => self.put_two_numbers(block),
         }
     }
 
@@ -260,7 +301,7 @@ impl<'f> FormattedRange<'f> {
         push_parts(&outer.after, block)
     }
 
-    /// Appends the text, if it is short and not approximate.
+    /// Appends the text, if it is short and has the numbers.
     fn put_text(&self, block: &mut Block) -> Result<(), SinkFault>
         ensures { OnOk result (block.new.0 ≡ block.old.0 ++ formatted_range_text self.now) }
     {

@@ -91,13 +91,12 @@ fn split<'p, 't>(
         ((p : NumberPattern) (middle : List ℕ) → ¬ IsSplit symbols.now patterns.now category text.now p middle)
         (λ r. IsSplit symbols.now patterns.now category text.now r.0.now r.1.now) }
 {
-    match patterns {
-        [] => None,
-        [first, rest @ ..] => match between_if(symbols, first, category, text) {
-            Some(middle) => Some((first, middle)),
-            None => split(symbols, rest, category, text),
-        },
+    for pattern in patterns {
+        if let Some(middle) = between_if(symbols, pattern, category, text) {
+            return Some((pattern, middle));
+        }
     }
+    None
 }
 
 /// Multiplies what was read by 10^shift.
@@ -300,26 +299,6 @@ impl<'a> AffixReader<'a> {
         Ok(value.with_sign(pattern.sign))
     }
 
-    fn read_own_exponent<D: DigitStore>(
-        &self,
-        form: &ExponentForm<'_>,
-        alloc: Global,
-        pattern: &NumberPattern,
-        middle: &[u8],
-        text: &[u8],
-    ) -> Result<Signed<UnsignedOver<D>>, ParseError>
-        requires separator { IsSeparatorApart self.now.symbols form.now.separator.now }
-        requires split { IsSplit self.now.symbols self.now.patterns None text.now pattern.now middle.now }
-        ensures { IsReadShownExponent D.L self.now form.now text.now result }
-    {
-        match form.read_parts(&self.symbols, alloc, middle) {
-            Ok((significand, exponent)) => {
-                self.own_exponent(form, pattern, middle, significand, exponent, text)
-            }
-            Err(error) => Err(error),
-        }
-    }
-
     fn read_exponent<D: DigitStore>(
         &self,
         form: &ExponentForm<'_>,
@@ -330,12 +309,18 @@ impl<'a> AffixReader<'a> {
     ) -> Result<Signed<UnsignedOver<D>>, ParseError>
         requires separator { IsSeparatorApart self.now.symbols form.now.separator.now }
         requires split { IsSplit self.now.symbols self.now.patterns None text.now pattern.now middle.now }
-        requires category { pattern.now.category ≡ None }
         ensures { IsReadShownExponent D.L self.now form.now text.now result }
     {
-        match form.read(&self.symbols, alloc, middle) {
-            Ok(shown) => Ok(shown.with_sign(pattern.sign)),
-            Err(error) => Err(error),
+        let (significand, exponent) = match form.read_parts(&self.symbols, alloc, middle) {
+            Ok(parts) => parts,
+            Err(fault) => return Err(fault),
+        };
+        match pattern.category {
+            Some(_) => self.own_exponent(form, pattern, middle, significand, exponent, text),
+            None => match times_power(significand, exponent) {
+                Ok(shown) => Ok(shown.with_sign(pattern.sign)),
+                Err(error) => Err(error),
+            },
         }
     }
 
@@ -352,10 +337,7 @@ impl<'a> AffixReader<'a> {
         else {
             return Err(ParseError::Syntax);
         };
-        match pattern.category {
-            None => self.read_exponent(form, alloc, pattern, middle, text),
-            Some(_) => self.read_own_exponent(form, alloc, pattern, middle, text),
-        }
+        self.read_exponent(form, alloc, pattern, middle, text)
     }
 
     /// Reads a number with an exponent between the texts of a pattern, in exactly one of the forms that a formatter

@@ -1,13 +1,13 @@
 //! Whether the texts around numbers can be told apart.
-ghost use Rattle.std.specs.Prelude.{◌≡◌, ◌↔◌, ◌⊎◌, IsTrue, All, map};
+ghost use Rattle.std.specs.{Prelude.{◌≡◌, ◌↔◌, ◌⊎◌, IsTrue, All, MatchOption, map}, List.Contains};
 ghost use Rattle.decimal_format.specs.{Readable.IsReadable, Symbols.affixes};
-ghost use Rattle.number_format.specs.{AffixedTexts.{ArePrefixesApart, AreSuffixesApart, ArePairApart, AreToldApart, AreNamed}, NumberReading.number_pattern};
+ghost use Rattle.number_format.specs.{AffixedTexts.{ArePrefixesApart, AreSuffixesApart, ArePairApart, AreToldApart, AreNamed, ClashesWith, HasClash}, NumberReading.number_pattern};
 
 use crate::format::formatter::NumberFormatter;
 use crate::read::pattern::{NumberPattern, PatternKey};
+use crate::read::pattern_name::PatternName;
 use decimal_format::internal::{begins_with_digit, ends_with_digit};
 use decimal_format::{Affixes, DecimalSymbols};
-use fixed_decimal::Sign;
 
 fn are_prefixes_apart(symbols: &DecimalSymbols<'_>, first: &str, second: &str) -> bool
     requires { IsReadable symbols.now }
@@ -51,24 +51,23 @@ pub(crate) fn are_same_powers(first: i32, second: i32) -> bool
     first == second
 }
 
-/// The sign of a pattern and its power of ten.
-pub(crate) type Meaning = (Sign, i32);
+/// The names of two patterns that are not told apart.
+pub(crate) type Clash = (PatternName, PatternName);
 
 pub(crate) fn are_told_apart(
     symbols: &DecimalSymbols<'_>,
     first: Affixes<'_>,
     second: Affixes<'_>,
-    first_meaning: Meaning,
-    second_meaning: Meaning,
+    names: (PatternName, PatternName),
 ) -> bool
     requires { IsReadable symbols.now }
     ensures { let a = affixes first.entry.prefix.now first.entry.suffix.now in
         let b = affixes second.entry.prefix.now second.entry.suffix.now in
-        IsTrue result ↔ (((a ≡ b) × (first_meaning.0 ≡ second_meaning.0) × (first_meaning.1 ≡ second_meaning.1))
+        IsTrue result ↔ (((a ≡ b) × (names.0.sign ≡ names.1.sign) × (names.0.exponent ≡ names.1.exponent))
         ⊎ ArePairApart symbols.now a b) }
 {
-    if first_meaning.0 == second_meaning.0
-        && are_same_powers(first_meaning.1, second_meaning.1)
+    if names.0.sign == names.1.sign
+        && are_same_powers(names.0.exponent, names.1.exponent)
         && are_same(first, second)
     {
         return true;
@@ -77,73 +76,67 @@ pub(crate) fn are_told_apart(
 }
 
 impl NumberPattern {
-    fn meaning(&self) -> Meaning
-        ensures { result ≡ (self.now.sign, self.now.exponent) }
-    {
-        (self.sign, self.exponent)
-    }
-
-    fn is_told_from(&self, symbols: &DecimalSymbols<'_>, others: &[NumberPattern]) -> bool
+    fn find_clash(&self, symbols: &DecimalSymbols<'_>, others: &[NumberPattern]) -> Option<Clash>
         requires { IsReadable symbols.now }
-        ensures { IsTrue result ↔ All (AreToldApart symbols.now self.now) others.now }
+        ensures { MatchOption result (All (AreToldApart symbols.now self.now) others.now)
+            (ClashesWith symbols.now self.now (Contains others.now)) }
     {
         let texts = self.affixes.texts();
         for other in others {
-            let others = other.affixes.texts();
-            if !are_told_apart(symbols, texts, others, self.meaning(), other.meaning()) {
-                return false;
+            let names = (self.name(), other.name());
+            if !are_told_apart(symbols, texts, other.affixes.texts(), names) {
+                return Some(names);
             }
         }
-        true
+        None
     }
 }
 
-/// Returns whether each two patterns are told apart.
-pub(crate) fn are_named(symbols: &DecimalSymbols<'_>, patterns: &[NumberPattern]) -> bool
+/// Returns the names of two patterns that are not told apart.
+pub(crate) fn find_clash(symbols: &DecimalSymbols<'_>, patterns: &[NumberPattern]) -> Option<Clash>
     requires { IsReadable symbols.now }
-    ensures { IsTrue result ↔ AreNamed symbols.now patterns.now }
+    ensures { MatchOption result (AreNamed symbols.now patterns.now) (HasClash symbols.now (Contains patterns.now)) }
 {
     for pattern in patterns {
-        if !pattern.is_told_from(symbols, patterns) {
-            return false;
+        if let Some(clash) = pattern.find_clash(symbols, patterns) {
+            return Some(clash);
         }
     }
-    true
+    None
 }
 
 impl NumberFormatter {
-    fn is_key_apart(&self, key: PatternKey, keys: &[PatternKey]) -> bool
+    fn clash_of_key(&self, key: PatternKey, keys: &[PatternKey]) -> Option<Clash>
         requires { IsReadable self.now.style.symbols }
-        ensures { IsTrue result ↔ All (λ k. AreToldApart self.now.style.symbols (number_pattern self.now key)
-            (number_pattern self.now k)) keys.now }
+        ensures { MatchOption result
+            (All (λ k. AreToldApart self.now.style.symbols (number_pattern self.now key) (number_pattern self.now k))
+            keys.now)
+            (ClashesWith self.now.style.symbols (number_pattern self.now key)
+            (Contains (map (number_pattern self.now) keys.now))) }
     {
         let symbols = &self.style.symbols;
         let texts = self.pattern_texts(key);
         for other in keys {
             let others = self.pattern_texts(*other);
-            if !are_told_apart(
-                symbols,
-                texts.texts(),
-                others.texts(),
-                (key.1, 0),
-                (other.1, 0),
-            ) {
-                return false;
+            let names = (self.pattern_name(key), self.pattern_name(*other));
+            if !are_told_apart(symbols, texts.texts(), others.texts(), names) {
+                return Some(names);
             }
         }
-        true
+        None
     }
 
-    /// Returns whether each two patterns are told apart. It does not allocate, and is slow.
-    pub(crate) fn are_keys_apart(&self, keys: &[PatternKey]) -> bool
+    /// Returns the names of two patterns that are not told apart. It does not allocate, and is slow.
+    pub(crate) fn clash_of_keys(&self, keys: &[PatternKey]) -> Option<Clash>
         requires { IsReadable self.now.style.symbols }
-        ensures { IsTrue result ↔ AreNamed self.now.style.symbols (map (number_pattern self.now) keys.now) }
+        ensures { MatchOption result (AreNamed self.now.style.symbols (map (number_pattern self.now) keys.now))
+            (HasClash self.now.style.symbols (Contains (map (number_pattern self.now) keys.now))) }
     {
         for key in keys {
-            if !self.is_key_apart(*key, keys) {
-                return false;
+            if let Some(clash) = self.clash_of_key(*key, keys) {
+                return Some(clash);
             }
         }
-        true
+        None
     }
 }

@@ -1,7 +1,7 @@
 //! Reading of numbers in compact notation.
-ghost use Rattle.std.specs.Prelude.{◌≡◌, ◌↔◌, ◌≤ℤ◌, ◌-ℤ◌, pos, Ok, IsTrue, true, false};
+ghost use Rattle.std.specs.Prelude.{◌≡◌, ◌↔◌, ◌≤ℤ◌, ◌-ℤ◌, pos, Ok, IsTrue, IfSome, IfNone, true, false};
 ghost use Rattle.decimal_format.specs.{Readable.IsReadable};
-ghost use Rattle.number_format.specs.{AffixedTexts.{AreNamed, shifted}, CompactReading.{word_pattern, magnitude_by, HasCompactExponents, HasTextsOf, HidesSigns, IsOwnPattern, IsOwnOr, IsReadByNumber, IsReadShownInWords, IsReadInAnyWords, IsReadOrAny, IsReadInWords, AreWordPatterns}, Scaled.IsOrdered, TypedWords.IsTypedInWords};
+ghost use Rattle.number_format.specs.{AffixedTexts.{AreNamed, shifted}, CompactReading.{word_pattern, magnitude_by, HasCompactExponents, HasTextsOf, HasOwnTexts, HasPowerOf, HidesSigns, IsKeyBy, IsOwnPattern, IsOwnOr, IsReadByNumber, IsReadShownInWords, IsReadInAnyWords, IsReadOrAny, IsReadInWords, AreWordPatterns}, Scaled.IsOrdered, TypedWords.IsTypedInWords};
 
 mod apart;
 mod keys;
@@ -152,6 +152,42 @@ impl CompactReader {
         false
     }
 
+    fn key<D: DigitStore>(
+        &self,
+        pattern: &NumberPattern,
+        value: &Signed<UnsignedOver<D>>,
+    ) -> Option<CompactKey>
+        requires exponent { (pos 0 ≤ℤ pattern.now.exponent) × (pattern.now.exponent ≤ℤ pos 255) }
+        ensures some { IfSome result (IsKeyBy self.now.0 value.now.absolute pattern.now) }
+        ensures none { IfNone result (¬ HasPowerOf self.now.0 value.now.absolute pattern.now) }
+    {
+        let magnitude = magnitude_by(value, pattern.exponent);
+        let exponent = self.formatter.notation.exponent_at(magnitude);
+        if !are_same_powers(exponent, pattern.exponent) {
+            return None;
+        }
+        Some(CompactKey {
+            magnitude,
+            category: self.reader.category(value),
+            is_one: is_unit(value),
+            whole: PluralCategory::Other,
+            sign: pattern.sign,
+        })
+    }
+
+    fn has_own_texts(&self, pattern: &NumberPattern, key: CompactKey) -> bool
+        ensures { IsTrue result ↔ HasOwnTexts self.now.0 self.now.1 pattern.now key }
+    {
+        if self.has_texts_of(pattern, key) {
+            return true;
+        }
+        let of_negative = CompactKey {
+            is_one: false,
+            ..key
+        };
+        hides_signs(&self.formatter) && self.has_texts_of(pattern, of_negative)
+    }
+
     fn is_own<D: DigitStore>(
         &self,
         pattern: &NumberPattern,
@@ -161,26 +197,10 @@ impl CompactReader {
         requires sign { pattern.now.sign ≡ value.now.sign }
         ensures { IsTrue result ↔ IsOwnPattern self.now.0 self.now.1 value.now pattern.now }
     {
-        let magnitude = magnitude_by(value, pattern.exponent);
-        let exponent = self.formatter.notation.exponent_at(magnitude);
-        if !are_same_powers(exponent, pattern.exponent) {
-            return false;
+        match self.key(pattern, value) {
+            Some(key) => self.has_own_texts(pattern, key),
+            None => false,
         }
-        let key = CompactKey {
-            magnitude,
-            category: self.reader.category(value),
-            is_one: is_unit(value),
-            whole: PluralCategory::Other,
-            sign: pattern.sign,
-        };
-        if self.has_texts_of(pattern, key) {
-            return true;
-        }
-        let of_negative = CompactKey {
-            is_one: false,
-            ..key
-        };
-        hides_signs(&self.formatter) && self.has_texts_of(pattern, of_negative)
     }
 
     fn own<D: DigitStore>(

@@ -1,7 +1,7 @@
 //! Readers of what formatters write.
-ghost use Rattle.std.specs.Prelude.{◌≡◌, ◌↔◌, ◌≤◌, ◌⊎◌, IsTrue, Some, None, ◌∷◌, [], ◌++◌, ◌-ℤ◌, pos, Ok, length, take, map, flat_map, IfOk, IfErr, OnOk};
+ghost use Rattle.std.specs.Prelude.{◌≡◌, ◌↔◌, ◌≤◌, ◌⊎◌, IsTrue, Some, None, ◌∷◌, [], ◌++◌, ◌-ℤ◌, pos, Ok, length, take, map, flat_map, IfOk, IfErr, OnOk, MatchOption};
 ghost use Rattle.decimal_format.specs.Readable.{IsReadable};
-ghost use Rattle.number_format.specs.{AffixedTexts.{AreNamed, shifted, IsReadTyped}, NumberReading.{KeepsNotation, CanReadExponents, CanReadWords, CanReadOther, CanReadNotation, HasPlainDigits, AreOwnWordsNamed, words_of, word_formatter, CanRead, CanUndo, CannotRead, percent_name, names_by, form, form_of, form_of_pattern, forms_of_name, patterns_of, number_reader_of, typed_forms, IsReadOrSaid, IsReadBy, IsReadStrictly, IsTypedBy, IsReadLeniently, IsReadInMode}, Scaled.HasNoIncrement, ScientificReading.exponent_form, WholeUnits.{said, IsSaidOr}};
+ghost use Rattle.number_format.specs.{AffixedTexts.{AreNamed, shifted, IsReadTyped}, NumberReading.{KeepsNotation, CanReadExponents, CanReadWords, CanReadOther, CanReadNotation, HasPlainDigits, AreOwnWordsNamed, HasOwnWordClash, words_of, word_formatter, CanRead, CanUndo, CannotRead, percent_name, names_by, form, form_of, form_of_pattern, forms_of_name, patterns_of, number_reader_of, typed_forms, IsReadOrSaid, IsReadBy, IsReadStrictly, IsTypedBy, IsReadLeniently, IsReadInMode}, Scaled.HasNoIncrement, ScientificReading.exponent_form, WholeUnits.{said, IsSaidOr}};
 
 use crate::digits::options::DigitOptions;
 use crate::digits::precision::Precision;
@@ -10,10 +10,11 @@ use crate::format::fraction::needs_no_integer;
 use crate::format::outer::OuterTexts;
 use crate::options::{DecimalSeparatorDisplay, NumberStyle};
 use crate::read::affix_reader::AffixReader;
-use crate::read::apart::are_named;
+use crate::read::apart::{Clash, find_clash};
 use crate::read::compact::{CompactReader, has_compact_exponents};
 use crate::read::owned_affixes::OwnedAffixes;
 use crate::read::pattern::NumberPattern;
+use crate::read::pattern_name::PatternName;
 use crate::read::scientific::ExponentForm;
 use crate::read::unit_texts::{is_standard, number_said};
 use decimal_format::Affixes;
@@ -51,9 +52,9 @@ pub enum NumberReaderError {
     Scale,
     /// The symbols are not readable: of two digits, separators or prefixes of signs one begins with the other.
     Symbols,
-    /// Two texts around numbers cannot be told apart, neither by their prefixes nor by their suffixes. They are the
-    /// texts of two signs, of two categories of a unit or a name, or of two powers of ten.
-    Affixes,
+    /// The texts around numbers that have these names cannot be told apart, neither by their prefixes nor by their
+    /// suffixes. They are the texts of two signs, of two categories of a unit or a name, or of two powers of ten.
+    Affixes(PatternName, PatternName),
     /// Out of memory.
     Memory,
 }
@@ -312,14 +313,15 @@ impl Model for NumberReader {
 }
 
 impl NumberFormatter {
-    fn are_own_words_apart(&self) -> bool
+    fn clash_of_own_words(&self) -> Option<Clash>
         requires undo { CanUndo self.now }
         requires readable { IsReadable self.now.style.symbols }
-        ensures { IsTrue result ↔ AreOwnWordsNamed self.now (words_of self.now) }
+        ensures { MatchOption result (AreOwnWordsNamed self.now (words_of self.now))
+            (HasOwnWordClash self.now (words_of self.now)) }
     {
         match self.options.compact_style() {
-            Some(style) => self.are_words_apart(style),
-            None => true,
+            Some(style) => self.clash_of_words(style),
+            None => None,
         }
     }
 
@@ -337,8 +339,8 @@ impl NumberFormatter {
         let Ok(patterns) = self.word_patterns(alloc, style, true) else {
             return Err(self.patterns_error());
         };
-        if !are_named(&self.style.symbols, patterns.as_slice()) {
-            return Err(NumberReaderError::Affixes);
+        if let Some((first, second)) = find_clash(&self.style.symbols, patterns.as_slice()) {
+            return Err(NumberReaderError::Affixes(first, second));
         }
         let Ok(wholes) = self.word_patterns(alloc, style, false) else {
             return Err(self.patterns_error());
@@ -351,13 +353,13 @@ impl NumberFormatter {
         requires readable { IsReadable self.now.style.symbols }
         ensures { CannotRead result self.now }
     {
-        if !self.are_keys_apart(self.pattern_keys()) {
-            return NumberReaderError::Affixes;
+        if let Some((first, second)) = self.clash_of_keys(self.pattern_keys()) {
+            return NumberReaderError::Affixes(first, second);
         }
-        if !self.are_own_words_apart() {
-            return NumberReaderError::Affixes;
+        match self.clash_of_own_words() {
+            Some((first, second)) => NumberReaderError::Affixes(first, second),
+            None => NumberReaderError::Memory,
         }
-        NumberReaderError::Memory
     }
 
     fn named_patterns(&self, alloc: Global) -> Result<Vec<NumberPattern>, NumberReaderError>
@@ -370,8 +372,8 @@ impl NumberFormatter {
         let Ok(patterns) = self.number_patterns(alloc) else {
             return Err(self.patterns_error());
         };
-        if !are_named(&self.style.symbols, patterns.as_slice()) {
-            return Err(NumberReaderError::Affixes);
+        if let Some((first, second)) = find_clash(&self.style.symbols, patterns.as_slice()) {
+            return Err(NumberReaderError::Affixes(first, second));
         }
         Ok(patterns)
     }

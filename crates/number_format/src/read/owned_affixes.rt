@@ -53,10 +53,11 @@ fn cut_parts<'t>(text: &'t [u8], parts: &[TextPart<'_>]) -> Option<&'t [u8]>
     ensures { MatchOption result ((rest : List ℕ) → text.now ≢ parts_text parts.now ++ rest)
         (λ rest. text.now ≡ parts_text parts.now ++ rest.now) }
 {
-    match parts {
-        [] => Some(text),
-        [first, rest @ ..] => cut_parts(cut(text, first.text.as_bytes())?, rest),
+    let mut rest = text;
+    for part in parts {
+        rest = cut(rest, part.text.as_bytes())?;
     }
+    Some(rest)
 }
 
 /// Returns whether a text is that of parts and of others after them.

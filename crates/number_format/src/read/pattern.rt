@@ -1,7 +1,7 @@
 //! The texts around a number that a formatter writes, and what they say of the number.
 ghost use Rattle.std.specs.Prelude.{◌≡◌, ◌↔◌, ◌≤◌, ◌+◌, ◌*◌, ◌++◌, length, IsTrue, IfOk};
 ghost use Rattle.decimal_format.specs.Symbols.{affixes};
-ghost use Rattle.number_format.specs.{AffixedTexts.Allows, FormattedNumbers.IsOuter, NumberReading.{outer_at, number_key, number_pattern, pattern_at, keys_by, patterns_of}, TextParts.parts_text};
+ghost use Rattle.number_format.specs.{AffixedTexts.{Allows, name_of}, FormattedNumbers.IsOuter, NumberReading.{outer_at, number_key, number_pattern, pattern_at, keys_by, patterns_of}, TextParts.parts_text};
 
 use crate::format::affixes::NumberAffixes;
 use crate::format::formatter::NumberFormatter;
@@ -9,6 +9,7 @@ use crate::format::outer::{OuterAround, OuterTexts};
 use crate::format::short_affixes::{ShortAffixes, joined};
 use crate::format::text_part::TextPart;
 use crate::read::owned_affixes::OwnedAffixes;
+use crate::read::pattern_name::PatternName;
 use arrayvec::ArrayString;
 use fixed_decimal::Sign;
 use plural_rules::PluralCategory::{self, Few, Many, One, Other, Two, Zero};
@@ -67,6 +68,17 @@ impl NumberPattern {
         match (self.category, category) {
             (Some(own), Some(category)) => own == category,
             _ => true,
+        }
+    }
+
+    /// Returns what the texts say of a number.
+    pub(crate) fn name(&self) -> PatternName
+        ensures { result ≡ name_of self.now }
+    {
+        PatternName {
+            category: self.category,
+            sign: self.sign,
+            exponent: self.exponent,
         }
     }
 }
@@ -136,6 +148,18 @@ impl NumberFormatter {
         ensures { result ≡ (number_pattern self.now key).affixes }
     {
         self.texts_at(self.number_key(key))
+    }
+
+    /// Returns what these texts say of a number.
+    pub(crate) fn pattern_name(&self, key: PatternKey) -> PatternName
+        ensures { result ≡ name_of (number_pattern self.now key) }
+    {
+        let (category, sign) = self.number_key(key);
+        PatternName {
+            category,
+            sign,
+            exponent: 0,
+        }
     }
 
     fn pattern_at(&self, alloc: Global, key: PatternKey) -> Result<NumberPattern, AllocError>

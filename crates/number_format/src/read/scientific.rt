@@ -110,8 +110,18 @@ impl<'a> ExponentForm<'a> {
         Some((significand, exponent.number))
     }
 
-    /// Reads the significand and the exponent of a number, as [`read`](Self::read) does before it multiplies: 40,000 or
-    /// -40,000 instead of a greater or a lesser exponent.
+    /// Reads the significand and the exponent of a number as a formatter in scientific or engineering notation writes
+    /// it: 40,000 or -40,000 instead of a greater or a lesser exponent.
+    ///
+    /// The significand is as [`DecimalSymbols::read`] accepts it, without a sign. The exponent is the one that the
+    /// notation has for the number, and it has its sign and its least number of digits. With `E` and `Scientific`,
+    /// `1.20E3` and `0E0` are accepted, and `12E3`, `1E03` and `0E1` are `Syntax`.
+    ///
+    /// # Errors
+    ///
+    /// - `Syntax`: no decimal has this text, of any number of digits.
+    /// - `Limit`: the significand has more than 32,768 integer or fraction digits.
+    /// - `Memory`: out of memory; possible only with a significand of more than `L` digits.
     pub(crate) fn read_parts<D: DigitStore>(
         &self,
         symbols: &DecimalSymbols<'_>,
@@ -128,33 +138,6 @@ impl<'a> ExponentForm<'a> {
         };
         match symbols.read(alloc, significand) {
             Ok(value) => Ok((value, exponent)),
-            Err(error) => Err(error),
-        }
-    }
-
-    /// Reads a number as a formatter in scientific or engineering notation writes it.
-    ///
-    /// The significand is as [`DecimalSymbols::read`] accepts it, without a sign. The exponent is the one that the
-    /// notation has for the number, and it has its sign and its least number of digits. With `E` and `Scientific`,
-    /// `1.20E3` and `0E0` are accepted, and `12E3`, `1E03` and `0E1` are `Syntax`.
-    ///
-    /// # Errors
-    ///
-    /// - `Syntax`: no decimal has this text, of any number of digits.
-    /// - `Limit`: there are more than 32,768 integer or fraction digits, or the exponent leaves these limits.
-    /// - `Memory`: out of memory; possible only with a significand of more than `L` digits.
-    pub(crate) fn read<D: DigitStore>(
-        &self,
-        symbols: &DecimalSymbols<'_>,
-        alloc: Global,
-        body: &[u8],
-    ) -> Result<Signed<UnsignedOver<D>>, ParseError>
-        requires readable { IsReadable symbols.now }
-        requires separator { IsSeparatorApart symbols.now self.now.separator.now }
-        ensures { IsReadScientific D.L symbols.now self.now body.now result }
-    {
-        match self.read_parts(symbols, alloc, body) {
-            Ok((significand, exponent)) => times_power(significand, exponent),
             Err(error) => Err(error),
         }
     }

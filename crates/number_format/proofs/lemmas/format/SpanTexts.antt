@@ -1,7 +1,6 @@
 -- The texts of spans.
 use Rattle.std.proofs.{Common.{◌≡◌, List, [], ◌∷◌, ◌++◌, ◌∙◌, ap, refl, sym}, lemmas.List.Concat.flat_map-cons}
-use Rattle.std.specs.Prelude.{Bool, true, false}
-use Rattle.number_format.specs.{declared.format.text_span.{DigitSpan.DigitSpan, TextSpan.TextSpan}, TextParts.{part_pieces, parts_text, pieces_text}, TextSpans.{digit_span_pieces, digit_span_text, span_pieces, span_text, spans_pieces, spans_text}}
+use Rattle.number_format.specs.{declared.format.text_span.{TextSpan.TextSpan}, TextParts.{parts_text, pieces_text}, TextSpans.{span_pieces, span_text, spans_pieces, spans_text}}
 use Rattle.number_format.proofs.lemmas.format.PieceTexts.{text-append, text-of, text-of_parts, text-of_shown}
 
 text-of_span : (s : TextSpan) → pieces_text (span_pieces s) ≡ span_text s

@@ -1,8 +1,8 @@
 -- The text of the segments of a range.
-use Rattle.std.proofs.{Common.{◌≡◌, ℕ, ◌+◌, ◌<◌, List, [], ◌∷◌, ◌++◌, length, get_or, take, drop, refl, sym, ◌∙◌, ap, append_assoc, append-nil}, lemmas.List.{get_or_default, Concat.flat_map-cons}}
+use Rattle.std.proofs.{Common.{◌≡◌, ◌≢◌, ℕ, ◌+◌, ◌<◌, List, [], ◌∷◌, ◌++◌, length, get_or, take, drop, refl, sym, ◌∙◌, ap, append_assoc, append-nil}, lemmas.List.{get_or_default, Concat.flat_map-cons}}
 use Rattle.std.specs.Prelude.{true, flat_map}
-use Rattle.number_format.specs.{declared.range.{form.RangeForm.TheVariants.{Apart, Common}, formatted_range.{FormattedRange.FormattedRange, RangeSegment.{RangeSegment, TheVariants.{Prefix, Start, Middle, End, Suffix}}}}, FormattedNumbers.{around_of, inner_text, number_text, outer_of}, FormattedRanges.{formatted_range_text, inner_range_pieces, numbers_text, segment_text, shown_range}, PatternTexts.{Around, around}, RangeText.{RangePieces, end_number, inner_pieces, pieces_if, separator_pieces, text_of_pieces, with_outer}, TextParts.pieces_text}
-use Rattle.number_format.proofs.lemmas.format.{FlatMaps.{flat_map-more, flat_map-split}, PieceTexts.{text-append, text-of_inner, text-of_number}}
+use Rattle.number_format.specs.{declared.range.{affixes.WideAffixes.WideAffixes, form.RangeForm.{RangeForm, TheVariants.{Approximate, Common, Apart}}, formatted_range.{FormattedRange.FormattedRange, RangeSegment.{RangeSegment, TheVariants.{Prefix, Start, Middle, End, Suffix}}}}, FormattedNumbers.{around_of, number_text, outer_of}, FormattedRanges.{formatted_range_text, inner_range_pieces, numbers_text, one_text, segment_text, shown_range, AreApproximate}, PatternTexts.{Around, around, within}, RangeText.{RangePieces, approximate_around, end_number, inner_pieces, pieces_if, separator_pieces, text_of_pieces, with_outer}, TextParts.{parts_text, pieces_text}}
+use Rattle.number_format.proofs.lemmas.format.{FlatMaps.{flat_map-more, flat_map-split}, PieceTexts.{text-append, text-of_inner, text-of_number, text-of_parts, text-three}}
 
 abbrev segments : List RangeSegment
 segments = Prefix ∷ (Start ∷ (Middle ∷ (End ∷ (Suffix ∷ []))))
@@ -74,19 +74,32 @@ module _ (t : FormattedRange) where
   abbrev separator : List ℕ
   separator = pieces_text (separator_pieces t.format.separator t.spaced)
 
-  -- the text of two numbers between the affixes of the first one
-  pub text-of_common_numbers : t.form ≡ Common → (around_of t.start).has_number ≡ true
-      → number_text t.start ++ (separator ++ number_text t.end) ≡ numbers_text t
-  text-of_common_numbers is h =
+  two_by : (form : RangeForm) → form ≢ Approximate → (around_of t.start).has_number ≡ true
+      → one_text form t.start ++ (separator ++ one_text form t.end) ≡ numbers_in (inner_pieces form (shown_range t))
+  two_by Approximate two h = absurd (two refl)
+  two_by Common two h =
       let r = shown_range t in
-      sym (ap (λ form. numbers_in (inner_pieces form r)) is
-      ∙ (λ i. pieces_text (pieces_if (h i) (end_number r.start))
+      sym ((λ i. pieces_text (pieces_if (h i) (end_number r.start))
       ++ (pieces_text (pieces_if (h i) (separator_pieces t.format.separator t.spaced))
       ++ pieces_text (pieces_if (h i) (end_number r.end))))
       ∙ (λ i. text-of_number t.start i ++ (separator ++ text-of_number t.end i)))
+  two_by Apart two h = sym (λ i. text-of_inner t.start i ++ (separator ++ text-of_inner t.end i))
 
-  -- and of two numbers with affixes of their own
-  pub text-of_numbers_apart : t.form ≡ Apart → inner_text t.start ++ (separator ++ inner_text t.end) ≡ numbers_text t
-  text-of_numbers_apart is =
-      sym (ap (λ form. numbers_in (inner_pieces form (shown_range t))) is
-      ∙ (λ i. text-of_inner t.start i ++ (separator ++ text-of_inner t.end i)))
+  -- the text of two numbers
+  pub text-of_two_numbers : t.form ≢ Approximate → (around_of t.start).has_number ≡ true
+      → one_text t.form t.start ++ (separator ++ one_text t.form t.end) ≡ numbers_text t
+  text-of_two_numbers = two_by t.form
+
+  -- and of an approximate number
+  pub text-of_approximate : (shown : WideAffixes) → AreApproximate t shown → t.form ≡ Approximate
+      → shown.has_number ≡ true
+      → parts_text shown.prefix ++ (number_text t.start ++ parts_text shown.suffix) ≡ numbers_text t
+  text-of_approximate shown parts is h =
+      let r = shown_range t in
+      let a = approximate_around r.start.formatter.style t.format.approximately r.start.sign r.start.pattern in
+      let n = end_number r.start in
+      sym (ap (λ form. numbers_in (inner_pieces form r)) is ∙ append-nil (pieces_text (within a n))
+      ∙ text-three a.prefix (pieces_if a.has_number n) a.suffix (parts_text shown.prefix) (number_text t.start)
+      (parts_text shown.suffix) (ap pieces_text (sym parts.prefix) ∙ text-of_parts shown.prefix)
+      (ap (λ b. pieces_text (pieces_if b n)) (sym parts.has_number ∙ h) ∙ text-of_number t.start)
+      (ap pieces_text (sym parts.suffix) ∙ text-of_parts shown.suffix))

@@ -12,6 +12,10 @@ use Rattle.decimal_format.proofs.lemmas.reader.{NumeralLaws.{texts_are_unique, n
 use Rattle.number_format.specs.{declared.read.pattern.NumberPattern.NumberPattern, AffixedTexts.{Reader, AreNamed, AreSame, AreToldApart, ArePairApart, between, IsWritten, IsWrittenBy, IsShown, IsNumeral, IsNumeralBy, IsBetween, IsSplit}}
 use Rattle.number_format.proofs.lemmas.{range.RangeEnds.category_unique, read.NamedAffixes.ends-append}
 
+-- digits and separators of a text, and the texts around it, are certain
+abbrev pub IsReader : Reader → Type 0
+IsReader r = IsReadable r.symbols × AreNamed r.symbols r.patterns
+
 -- ---- A number ends with a digit.
 
 never_after_last : (s : Symbols) (g : GroupingStrategy) (n : ℕ) → separated_by s g n 0 ≡ false

@@ -1,12 +1,12 @@
 -- Whether a significand is written with the texts of a pattern.
-use Rattle.std.proofs.{Common.{◌≡◌, ◌≢◌, ℕ, Bool, true, false, List, ◌++◌, inl, inr, refl, sym, ◌∙◌, ap, subst, w16, w32, to_z, of_z, FitsSigned}, lemmas.Int.to_z-of_z}
+use Rattle.std.proofs.{Common.{◌≡◌, ◌≢◌, ℕ, Bool, false, List, ◌++◌, inl, inr, refl, sym, ◌∙◌, ap, subst, w16, w32, to_z, of_z, FitsSigned}, lemmas.Int.to_z-of_z}
 use Rattle.std.specs.{Prelude.{◌↔◌, IsTrue, Result, Ok, Err, ℤ, pos, ◌≤ℤ◌}, List.Contains}
-use Rattle.decimal_unsigned.specs.{Unsigned.one_value, declared.error.ParseError.ParseError}
+use Rattle.decimal_unsigned.specs.{Unsigned.{Unsigned, one_value}, declared.error.ParseError.ParseError}
 use Rattle.fixed_decimal.specs.{Decimal.Decimal}
 use Rattle.plural_rules.specs.{Operands.plain, declared.rules.PluralCategory.PluralCategory}
-use Rattle.locale_data.specs.{Plurals.IsCategoryAt, declared.compact.CompactStyle.CompactStyle}
+use Rattle.locale_data.specs.{declared.compact.CompactStyle.CompactStyle}
 use Rattle.decimal_format.specs.{Formatted.absolute_text, Reading.IsRead, Symbols.Affixes}
-use Rattle.number_format.specs.{declared.{format.formatter.NumberFormatter.NumberFormatter, read.{compact.keys.CompactKey.CompactKey, pattern.NumberPattern.NumberPattern}}, AffixedTexts.{Reader, shifted, IsNumeral, IsWritten, IsWrittenBy}, CompactReading.{category_at, has_number_at, whole_text, word_pattern, word_reader, AreWordPatterns, ChoosesOne, HasCompactExponents, HidesSigns, IsReadShownInWords, magnitude_by, is_unit, HasTextsOf, IsOwnOr, IsOwnPattern, IsReadByNumber, IsShownInWords, IsReadInAnyWords, IsWordReader}, Scaled.exponent_at}
+use Rattle.number_format.specs.{declared.{format.formatter.NumberFormatter.NumberFormatter, read.{compact.keys.CompactKey.CompactKey, pattern.NumberPattern.NumberPattern}}, AffixedTexts.{Reader, shifted, IsNumeral, IsWritten, IsWrittenBy}, CompactReading.{category_at, has_number_at, whole_text, word_pattern, word_reader, AreWordPatterns, ChoosesOne, HasCompactExponents, IsReadShownInWords, magnitude_by, HasOwnTexts, HasPowerOf, HasTextsOf, IsKeyBy, IsOwnOr, IsOwnPattern, IsReadByNumber, IsShownInWords, IsReadInAnyWords, IsWordReader}, Scaled.exponent_at}
 use Rattle.number_format.proofs.lemmas.{range.RangeEnds.category_unique, read.{AffixedNumbers.two_texts, CompactKeys.{code, coded}, CompactPatterns.AllBelow, CompactTexts.small_exponent}}
 
 -- powers of ten are compared as 32-bit integers
@@ -21,93 +21,71 @@ pub narrow_key : (P : CompactKey → Type 0) (k : CompactKey) → FitsSigned w16
     → P (record k { magnitude = to_z w16 (of_z w16 k.magnitude) }) → P k
 narrow_key P k fits x = subst (λ (z : ℤ). P (record k { magnitude = z })) (to_z-of_z w16 k.magnitude fits) x
 
-module _ (f : NumberFormatter) (style : CompactStyle) (v : Decimal) (p : NumberPattern) (m : ℤ)
-    (magnitude : m ≡ magnitude_by v.absolute p.exponent) (sign : p.sign ≡ v.sign) where
-  own_magnitude : (own : IsOwnPattern f style v p) → own.key.magnitude ≡ m
-  own_magnitude own = own.own.magnitude ∙ ap (magnitude_by v.absolute) (sym own.is.2) ∙ sym magnitude
+-- the magnitude has another power of ten
+pub no_power : (f : NumberFormatter) (v : Unsigned) (p : NumberPattern) (m : ℤ) (r : Bool)
+    → m ≡ magnitude_by v p.exponent → IsTrue r ↔ (exponent_at f.notation m ≡ p.exponent) → r ≡ false
+    → ¬ HasPowerOf f v p
+no_power f v p m r magnitude same fails has =
+    let t = same.1 (ap (exponent_at f.notation) magnitude ∙ has) in absurd (cc (t, fails))
 
-  own_exponent : IsOwnPattern f style v p → exponent_at f.notation m ≡ p.exponent
-  own_exponent own = ap (exponent_at f.notation) (sym (own_magnitude own)) ∙ sym own.is.2
+module _ (f : NumberFormatter) (style : CompactStyle) (v : Decimal) (p : NumberPattern) (sign : p.sign ≡ v.sign)
+  where
+    own_power : IsOwnPattern f style v p → HasPowerOf f v.absolute p
+    own_power own =
+        let magnitude = own.own.magnitude ∙ ap (magnitude_by v.absolute) (sym own.is.2) in
+        ap (exponent_at f.notation) (sym magnitude) ∙ sym own.is.2
 
-  -- the exponent is another one
-  pub not_own : (exponent_at f.notation m ≡ p.exponent → ⊥) → IsTrue false ↔ IsOwnPattern f style v p
-  not_own other = (λ t. absurd (cc), λ own. absurd (other (own_exponent own)))
+    pub not_own : ¬ HasPowerOf f v.absolute p → IsTrue false ↔ IsOwnPattern f style v p
+    not_own none = (λ t. absurd (cc), λ own. absurd (none (own_power own)))
 
-  module _ (c : PluralCategory) (of_value : IsCategoryAt f.rules (plain v.absolute) c) where
-    abbrev pub key : Bool → CompactKey
-    key one =
-        record { magnitude = m; category = c; is_one = one; whole = PluralCategory.Other; sign = p.sign }
+    module _ (k : CompactKey) (by : IsKeyBy f v.absolute p k) where
+      abbrev with_one : Bool → CompactKey
+      with_one one = record k { is_one = one }
 
-    pub texts_of_key : FitsSigned w16 m → (one b : Bool)
-        → IsTrue b ↔ HasTextsOf f style p (record (key one) { magnitude = to_z w16 (of_z w16 m) })
-        → IsTrue b ↔ HasTextsOf f style p (key one)
-    texts_of_key fits one b test =
-        narrow_key (λ (k : CompactKey). IsTrue b ↔ HasTextsOf f style p k) (key one) fits test
+      own_by : (one : Bool) → ChoosesOne f v one → HasTextsOf f style p (with_one one) → IsOwnPattern f style v p
+      own_by one chosen has = record {
+        key = record (with_one one) { whole = has.1.0 };
+        own = record {
+          magnitude = by.magnitude
+              ∙ ap (magnitude_by v.absolute) (sym by.power ∙ ap (exponent_at f.notation) (sym by.magnitude));
+          category = by.category;
+          one = chosen;
+          sign = by.sign ∙ sign;
+        };
+        has = has.0;
+        is = (has.1.1, sym by.sign, sym by.power ∙ ap (exponent_at f.notation) (sym by.magnitude));
+      }
 
-    -- of a key that was copied
-    pub texts_of_copy : FitsSigned w16 m → (one b : Bool)
-        → IsTrue b ↔ HasTextsOf f style p (record (key one) { magnitude = to_z w16 (of_z w16 (to_z w16 (of_z w16 m))) })
-        → IsTrue b ↔ HasTextsOf f style p (key one)
-    texts_of_copy fits one b test =
-        texts_of_key fits one b
-        (subst (λ (z : ℤ). IsTrue b ↔ HasTextsOf f style p (record (key one) { magnitude = to_z w16 (of_z w16 z) }))
-        (to_z-of_z w16 m fits) test)
+      texts_by : (own : IsOwnPattern f style v p) → HasTextsOf f style p (with_one own.key.is_one)
+      texts_by own =
+          let q = own.key in
+          let magnitude =
+          own.own.magnitude ∙ ap (magnitude_by v.absolute) (sym own.is.2) ∙ sym by.magnitude in
+          let category =
+          category_unique f.rules (plain v.absolute) q.category k.category own.own.category by.category in
+          let same : q ≡ record (with_one q.is_one) { whole = q.whole } =
+          λ i. record {
+            magnitude = magnitude i;
+            category = category i;
+            is_one = q.is_one;
+            whole = q.whole;
+            sign = (sym own.is.1 ∙ sym by.sign) i;
+          } in (
+            ap (has_number_at f style) (sym same) ∙ own.has,
+            (q.whole, own.is.0 ∙ ap (λ x. (word_pattern f style x).affixes) same),
+          )
 
-    own_by : (one : Bool) → ChoosesOne f v one → exponent_at f.notation m ≡ p.exponent
-        → HasTextsOf f style p (key one) → IsOwnPattern f style v p
-    own_by one chosen exponent has = record {
-      key = record (key one) { whole = has.1.0 };
-      own = record {
-        magnitude = magnitude ∙ ap (magnitude_by v.absolute) (sym exponent);
-        category = of_value;
-        one = chosen;
-        sign = sign;
-      };
-      has = has.0;
-      is = (has.1.1, refl, sym exponent);
-    }
+      -- the pattern is one of the number exactly if it has the texts of its key
+      pub own_texts : (r : Bool) → IsTrue r ↔ HasOwnTexts f style p k → IsTrue r ↔ IsOwnPattern f style v p
+      own_texts r test = (λ t. from (test.0 t), λ own. test.1 (to own.key.is_one own.own.one (texts_by own)))
+        where
+          from : HasOwnTexts f style p k → IsOwnPattern f style v p
+          from (inl has) = own_by k.is_one (inl by.one) has
+          from (inr hidden) = own_by false (inr (refl, hidden.0)) hidden.1
 
-    texts_by : (own : IsOwnPattern f style v p) → HasTextsOf f style p (key own.key.is_one)
-    texts_by own =
-        let k = own.key in
-        let category = category_unique f.rules (plain v.absolute) k.category c own.own.category of_value in
-        let same : k ≡ record (key k.is_one) { whole = k.whole } =
-        λ i. record {
-          magnitude = own_magnitude own i;
-          category = category i;
-          is_one = k.is_one;
-          whole = k.whole;
-          sign = sym own.is.1 i;
-        } in (
-          ap (has_number_at f style) (sym same) ∙ own.has,
-          (k.whole, own.is.0 ∙ ap (λ x. (word_pattern f style x).affixes) same),
-        )
-
-    module _ (unit : Bool) (is : unit ≡ is_unit v.absolute) where
-      -- the texts are those of the number
-      pub own_texts : exponent_at f.notation m ≡ p.exponent → HasTextsOf f style p (key unit)
-          → IsTrue true ↔ IsOwnPattern f style v p
-      own_texts exponent has = (λ t. own_by unit (inl is) exponent has, λ own. refl)
-
-      -- they are not
-      module _ (none : ¬ HasTextsOf f style p (key unit)) where
-        texts_of_negative : IsOwnPattern f style v p → HidesSigns f × HasTextsOf f style p (key false)
-        texts_of_negative own = go own.key.is_one (texts_by own) own.own.one
-          where
-            go : (one : Bool) → HasTextsOf f style p (key one) → ChoosesOne f v one
-                → HidesSigns f × HasTextsOf f style p (key false)
-            go one has (inl same) = absurd (none (subst (λ b. HasTextsOf f style p (key b)) (same ∙ sym is) has))
-            go one has (inr hidden) = (hidden.1, subst (λ b. HasTextsOf f style p (key b)) hidden.0 has)
-
-        -- a sign is written
-        pub shows_signs : ¬ HidesSigns f → IsTrue false ↔ IsOwnPattern f style v p
-        shows_signs shows = (λ t. absurd (cc), λ own. absurd (shows (texts_of_negative own).0))
-
-        -- no sign is written, and the texts are those of a negative number or not
-        pub own_negative : HidesSigns f → (r : Bool) → exponent_at f.notation m ≡ p.exponent
-            → IsTrue r ↔ HasTextsOf f style p (key false) → IsTrue r ↔ IsOwnPattern f style v p
-        own_negative hides r exponent test =
-            (λ t. own_by false (inr (refl, hides)) exponent (test.0 t), λ own. test.1 (texts_of_negative own).1)
+          to : (one : Bool) → ChoosesOne f v one → HasTextsOf f style p (with_one one) → HasOwnTexts f style p k
+          to one (inl same) has = inl (subst (λ b. HasTextsOf f style p (with_one b)) (same ∙ sym by.one) has)
+          to one (inr hidden) has = inr (hidden.1, subst (λ b. HasTextsOf f style p (with_one b)) hidden.0 has)
 
 -- the texts of a key are those of some category of the whole number
 module _ (f : NumberFormatter) (style : CompactStyle) (p : NumberPattern) (k : CompactKey) where

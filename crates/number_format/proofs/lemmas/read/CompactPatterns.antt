@@ -1,8 +1,8 @@
 -- The patterns of compact notation, by the indexes of their keys.
-use Rattle.std.proofs.{Common.{◌≡◌, ℕ, zero, suc, ◌+◌, ◌-◌, ◌*◌, ◌/◌, ◌<◌, ◌≤◌, Bool, false, List, [], ◌∷◌, ◌++◌, inl, inr, refl, sym, ◌∙◌, ap, subst, arith}, lemmas.Bool.cases_lt}
+use Rattle.std.proofs.{Common.{◌≡◌, ℕ, zero, suc, ◌+◌, ◌-◌, ◌*◌, ◌/◌, ◌<◌, ◌≤◌, Bool, true, false, List, [], ◌∷◌, ◌++◌, inl, inr, refl, sym, ◌∙◌, ap, subst, arith}, lemmas.Bool.cases_lt}
 use Rattle.std.specs.{Prelude.{◌↔◌, ◌⊎◌, IsTrue, pos}, List.Contains}
 use Rattle.locale_data.specs.declared.compact.CompactStyle.{CompactStyle}
-use Rattle.number_format.specs.{declared.{format.formatter.NumberFormatter.NumberFormatter, read.{compact.keys.CompactKey.CompactKey, pattern.NumberPattern.NumberPattern}}, AffixedTexts.{AreToldApart}, CompactReading.{has_number_at, word_pattern, whole_text, key_at, AreKeysApart, AreWordPatterns, AreAlike, AreFirstPatterns, AreWordsNamed, HasCompactExponents, HasMeaningOf, HasNoDigit, HasNumberOr, HasOneMeaning, HasWordNumbers, IsIndexApart, IsSameBefore, RepeatsAnother}}
+use Rattle.number_format.specs.{declared.{format.formatter.NumberFormatter.NumberFormatter, read.{compact.keys.CompactKey.CompactKey, pattern.NumberPattern.NumberPattern, pattern_name.PatternName.PatternName}}, AffixedTexts.{name_of, AreToldApart, HasClash}, CompactReading.{has_number_at, word_pattern, whole_text, key_at, AreKeysApart, AreWordPatterns, AreAlike, AreFirstPatterns, AreWordsNamed, HasCompactExponents, HasMeaningOf, HasNoDigit, HasNumberOr, HasOneMeaning, HasWordNumbers, IsIndexApart, IsPatternOf, IsSameBefore, RepeatsAnother}}
 use Rattle.number_format.proofs.lemmas.read.CompactKeys.{index_of, same_in_row}
 
 -- ---- A loop over indexes that passes over those that repeat another.
@@ -55,6 +55,11 @@ of_either (z ∷ zs) x y (suc k, below, e) = elim (of_either zs x y (k, omega (a
 
 -- ---- What holds of each index holds of each key.
 
+both_hold : {P : Type 0} (a b : Bool) → ¬ (a ≡ true → b ≡ true → P) → (a ≡ true) × (b ≡ true) × ¬ P
+both_hold true true fails = (refl, refl, λ p. fails (λ x y. p))
+both_hold true false fails = absurd (fails (λ x y. absurd (cc)))
+both_hold false b fails = absurd (fails (λ x y. absurd (cc)))
+
 module _ (f : NumberFormatter) (style : CompactStyle) where
   in_row : (row : ℕ) → 216 ≤ row * 216 → IsSameBefore f style (key_at (row * 216)).magnitude → (i : ℕ) → row * 216 ≤ i
       → i < row * 216 + 216 → AreAlike f style (key_at (i - 216)) (key_at i)
@@ -101,6 +106,17 @@ module _ (f : NumberFormatter) (style : CompactStyle) where
       → IsIndexApart f style i
   apart_again i n within all (j, below, alike) = λ l h.
       apart_left (key_at j) (key_at i) (key_at l) alike (all j (omega (arith, within, below)) l h)
+
+  -- two keys that are not told apart have the number
+  pub clash_of : (k l : CompactKey) (n m : PatternName) → n ≡ name_of (word_pattern f style k)
+      → m ≡ name_of (word_pattern f style l) → ¬ AreKeysApart f style k l
+      → HasClash f.style.symbols (IsPatternOf f style true) (n, m)
+  clash_of k l n m name other apart =
+      let both = both_hold (has_number_at f style k) (has_number_at f style l) apart in (
+        word_pattern f style k,
+        record { key = k; has = both.0; is = refl },
+        (word_pattern f style l, record { key = l; has = both.1; is = refl }, λ i. (name i, other i), both.2),
+      )
 
   -- a magnitude with the texts of the one before it
   pub numbers_again : (row : ℕ) → 216 ≤ row * 216 → IsSameBefore f style (key_at (row * 216)).magnitude
@@ -171,14 +187,11 @@ module _ (f : NumberFormatter) (style : CompactStyle) where
       λ has i below. has (key_at i),
     )
 
-    pub each_apart : AllBelow (IsIndexApart f style) 3888 ↔ AreWordsNamed f style
-    each_apart = (
-      λ all k l.
-          let i = index_of f style exponents k in
-          let j = index_of f style exponents l in
-          apart_right k (key_at j.0) l j.2 (apart_left (key_at i.0) k (key_at j.0) i.2 (all i.0 i.1 j.0 j.1)),
-      λ named i below j h. named (key_at i) (key_at j),
-    )
+    pub each_apart : AllBelow (IsIndexApart f style) 3888 → AreWordsNamed f style
+    each_apart all k l =
+        let i = index_of f style exponents k in
+        let j = index_of f style exponents l in
+        apart_right k (key_at j.0) l j.2 (apart_left (key_at i.0) k (key_at j.0) i.2 (all i.0 i.1 j.0 j.1))
 
     -- the whole text of a pattern has one meaning
     pub one_meaning : (p : NumberPattern) → AllBelow (λ i. HasMeaningOf f style p (key_at i)) 3888

@@ -1,5 +1,5 @@
 -- What a formatter writes in compact notation is read back by its reader.
-use Rattle.std.proofs.{Common.{◌≡◌, ◌==◌, ◌&&◌, ◌<◌, ◌/◌, ◌*◌, ◌^◌, ℕ, zero, suc, Bool, true, false, List, [], ◌++◌, inl, inr, refl, sym, ◌∙◌, ap, subst, arith, append-nil}, Math.{Bool.and-true, Nat.{mul-pos, pos_of_div-pos}}, lemmas.{Bool.{and_parts, Decides.nat_tests}, Int.{ints, clamps}}}
+use Rattle.std.proofs.{Common.{◌≡◌, ◌==◌, ◌&&◌, ◌<◌, ◌/◌, ℕ, zero, suc, Bool, true, false, List, [], ◌++◌, inl, inr, refl, sym, ◌∙◌, ap, subst, arith, append-nil}, Math.{Bool.and-true, Nat.{mul-pos, pos_of_div-pos}}, lemmas.{Bool.{and_parts, Decides.nat_tests}, Int.{ints, clamps}}}
 use Rattle.std.specs.{Prelude.{◌⊎◌, Option, Some, None, Result, Ok, Err, MatchResult, if◌then◌else◌, not, ℤ, pos, unsigned_abs, ◌+ℤ◌, ◌-ℤ◌, ◌≤ℤ◌, int_lt}, Int.{int_min}, Option.option_map_or}
 use Rattle.decimal_digits.specs.Number.{first, weight}
 use Rattle.decimal_unsigned.specs.{Unsigned.{IsValue, one_value}, declared.error.ParseError.{ParseError, TheVariants.Memory}}

@@ -8,7 +8,7 @@ use Rattle.plural_rules.specs.declared.rules.PluralCategory.{PluralCategory}
 use Rattle.decimal_format.specs.Scanning.{value_of}
 use Rattle.locale_data.specs.Plurals.{IsCategoryAt}
 use Rattle.number_format.specs.ScientificReading as scientific
-use Rattle.number_format.specs.{declared.{digits.options.DigitOptions.DigitOptions, format.{formatter.NumberFormatter.NumberFormatter, ids.FormatterIds.FormatterIds, outer.OuterTexts.OuterTexts}, notation.Notation.Notation, options.{DecimalSeparatorDisplay.DecimalSeparatorDisplay, NumberOptions.NumberOptions, NumberNotation.NumberNotation, NumberStyle.NumberStyle}, read.{pattern.NumberPattern.NumberPattern, scientific.ExponentForm.ExponentForm}}, AffixedExponents.{IsReadWithExponent, IsOfExponent}, AffixedTexts.{between, shifted, IsSplit}, Formatters.{IsFormatterAt, IsNotationBy}, NumberReading.{KeepsNotation, CanReadExponents, CanReadWords, CanReadNotation, HasNumbers, CanRead, IsShownAs, keys_by, number_pattern, pattern_at, patterns_of, reader_of}, NumberText.{IsNumberText, compact_style, exponent_of, needs_no_integer, rounded_in, shown_sign, operands_by, operands_with, outer_operands, whole_number}, Scaled.{ScaledValue, scaled}, ScientificReading.{CanReadExponent, ScientificNumeral, IsScientificNumeral, exponent_form, HasExponentOf, notation_of, scientific_text}}
+use Rattle.number_format.specs.{declared.{digits.options.DigitOptions.DigitOptions, format.{formatter.NumberFormatter.NumberFormatter, ids.FormatterIds.FormatterIds}, notation.Notation.Notation, options.{DecimalSeparatorDisplay.DecimalSeparatorDisplay, NumberOptions.NumberOptions, NumberNotation.NumberNotation, NumberStyle.NumberStyle}, read.{pattern.NumberPattern.NumberPattern, scientific.ExponentForm.ExponentForm}}, AffixedExponents.{IsReadWithExponent, IsOfExponent}, AffixedTexts.{between, shifted, IsSplit}, Formatters.{IsFormatterAt, IsNotationBy}, NumberReading.{KeepsNotation, CanReadExponents, CanReadWords, CanReadNotation, HasNumbers, CanRead, IsShownAs, pattern_at, patterns_of, reader_of}, NumberText.{IsNumberText, compact_style, exponent_of, needs_no_integer, rounded_in, shown_sign, operands_by, operands_with, outer_operands, whole_number}, Scaled.{ScaledValue, scaled}, ScientificReading.{CanReadExponent, ScientificNumeral, IsScientificNumeral, exponent_form, HasExponentOf, notation_of, scientific_text}}
 use Rattle.number_format.proofs.lemmas.{format.PieceTexts.{shows_integer, text-of_digits_and_exponent}, notation.Exponents.exponent_shown, read.{AffixedNumbers.{only_middle, of_category}, FormatterTexts.{IsKeyOf, is_listed, key_of, number_at, some_same, text_between}, ScientificAffixes.affixed_reads, ScientificBodies.{number_written, scientific_begins, scientific_ends}, ScientificShown.{number, numeral, shown_numeral}, ScientificUnique.{one_significand, one_exponent}, ShownValues.{scaled_first, shown_value}, WholeUnits.has_numbers}}
 use Rattle.number_format.proofs.lemmas.read.ScientificShown as shown_texts
 

@@ -8,7 +8,7 @@ use Rattle.decimal_format.specs.{Readable.IsReadable, Scanning.value_of}
 use Rattle.plural_rules.specs.declared.rules.PluralCategory.{PluralCategory}
 use Rattle.locale_data.specs.Plurals.{IsCategoryAt}
 use Rattle.number_format.specs.{declared.read.{pattern.NumberPattern.NumberPattern, scientific.ExponentForm.ExponentForm}, AffixedTexts.{Reader, AreNamed, shifted, IsSplit}, NumberText.operands_with, ScientificReading.{IsSeparatorApart, ScientificNumeral, exponent_of, IsReadScientific, capped_exponent, HasParts}, AffixedExponents.{signed, IsReadShownExponent}}
-use Rattle.number_format.proofs.lemmas.read.{ScientificAffixes.{shown_between, shown_by, not_shown}, ScientificParts.{absolute_is, power_is, parts_read, parts_memory}}
+use Rattle.number_format.proofs.lemmas.read.{ScientificAffixes.{shown_between, shown_without, shown_by, not_shown}, ScientificParts.{absolute_is, power_is, parts_read, parts_memory}}
 
 module _ (r : Reader) (f : ExponentForm) (bytes : List ℕ) (inline : ℕ) (readable : IsReadable r.symbols)
     (named : AreNamed r.symbols r.patterns) (p : NumberPattern) (middle : List ℕ)
@@ -30,6 +30,12 @@ module _ (r : Reader) (f : ExponentForm) (bytes : List ℕ) (inline : ℕ) (read
   not_copied long =
       shown_between r f bytes inline readable named p middle inside (Err Memory) (Err Memory)
       (parts_memory r.symbols readable f apart middle v number parts inline long) refl
+
+  -- the pattern is for all numbers
+  pub of_any_category : p.category ≡ None → (x : Decimal) → IsProduct (Ok x)
+      → IsReadShownExponent inline r f bytes (signed p.sign (Ok x))
+  of_any_category any x is =
+      shown_without r f bytes inline readable named p middle inside any x (product_read (Ok x) is)
 
   pub beyond_limits : (e : ParseError) → IsProduct (Err e) → IsReadShownExponent inline r f bytes (Err e)
   beyond_limits e is =

@@ -1,24 +1,21 @@
 -- Lists of patterns.
-use Rattle.std.proofs.{Common.{◌≡◌, ℕ, zero, suc, ◌+◌, ◌<◌, ◌≤◌, Bool, true, false, List, [], ◌∷◌, ◌++◌, length, get_or, take, map, refl, sym, ◌∙◌, ap, subst, arith}, lemmas.{List.take_all, List.Elements.{All-contains, All-contains_itself, All-map, All-more}}}
+use Rattle.std.proofs.{Common.{◌≡◌, ℕ, zero, suc, ◌+◌, ◌<◌, ◌≤◌, Bool, false, List, [], ◌∷◌, ◌++◌, length, get_or, take, map, sym, ◌∙◌, ap, subst, arith}, lemmas.{List.take_all, List.Elements.{All-contains, All-map, All-more, Contains-get_or}}}
 use Rattle.std.specs.{Prelude.{◌↔◌, ◌⊎◌, IsTrue, All}, List.Contains}
 use Rattle.decimal_format.specs.Symbols.{Symbols, Affixes, affixes}
-use Rattle.number_format.specs.{declared.{format.{affixes.NumberAffixes.NumberAffixes, outer.OuterAround.OuterAround, text_part.{PartKind.PartKind, TextPart.TextPart}}, read.pattern.NumberPattern.NumberPattern}, AffixedTexts.{AreNamed, ArePairApart, AreToldApart}, FormattedNumbers.IsOuter, NumberText.AreParts, PatternTexts.Around, TextParts.{Piece, parts_pieces, parts_text, pieces_of, pieces_text}}
+use Rattle.number_format.specs.{declared.{format.{affixes.NumberAffixes.NumberAffixes, outer.OuterAround.OuterAround, text_part.{PartKind.PartKind, TextPart.TextPart}}, read.{pattern.NumberPattern.NumberPattern, pattern_name.PatternName.PatternName}}, AffixedTexts.{name_of, AreNamed, ArePairApart, AreToldApart, ClashesWith}, FormattedNumbers.IsOuter, NumberText.AreParts, PatternTexts.Around, TextParts.{Piece, parts_pieces, parts_text, pieces_of, pieces_text}}
 use Rattle.number_format.proofs.lemmas.format.PieceTexts.{text-of, text-of_parts}
 
 -- ---- A loop that ends at the first element that fails a test.
 
 module _ {X : Type 0} (P : X → Type 0) (xs : List X) (i : ℕ) where
-  pub all_more : (x d : X) (b : Bool) → i < length xs → x ≡ get_or xs i d → IsTrue b ↔ P x → b ≡ true
-      → All P (take i xs) → All P (take (i + 1) xs)
-  all_more x d b below is test passes all = All-more P xs i d below all (subst P is (test.0 passes))
+  pub all_more : (x d : X) → i < length xs → x ≡ get_or xs i d → P x → All P (take i xs) → All P (take (i + 1) xs)
+  all_more x d below is holds all = All-more P xs i d below all (subst P is holds)
 
-  pub not_all : (x d : X) (b : Bool) → i < length xs → x ≡ get_or xs i d → IsTrue b ↔ P x → b ≡ false
-      → IsTrue false ↔ All P xs
-  not_all x d b below is test fails =
-      (λ t. absurd (cc), λ all. let t = test.1 (subst P (sym is) (all i d below)) in absurd (cc))
+  pub all_done : length xs ≤ i → All P (take i xs) → All P xs
+  all_done end all = subst (All P) (take_all i xs end) all
 
-  pub all_done : length xs ≤ i → All P (take i xs) → IsTrue true ↔ All P xs
-  all_done end all = (λ t. subst (All P) (take_all i xs end) all, λ each. refl)
+pub listed_at : {X : Type 0} (xs : List X) (i : ℕ) (x d : X) → i < length xs → x ≡ get_or xs i d → Contains xs x
+listed_at xs i x d below is = subst (Contains xs) (sym is) (Contains-get_or xs i d below)
 
 -- ---- Elements.
 
@@ -32,37 +29,32 @@ in_map g (y ∷ ys) x (suc k, h, e) =
 
 module _ (s : Symbols) where
   -- each one from all is each two
-  pub named_by_all : (ps : List NumberPattern) → All (λ p. All (AreToldApart s p) ps) ps ↔ AreNamed s ps
-  named_by_all ps = (
-    λ all. record {
-      pair = λ p q a b.
-          All-contains (AreToldApart s p) ps q (All-contains (λ x. All (AreToldApart s x) ps) ps p all a) b;
-    },
-    λ named k d below l e below'.
-        named.pair _ _ (All-contains_itself ps k d below) (All-contains_itself ps l e below'),
-  )
+  pub named_by_all : (ps : List NumberPattern) → All (λ p. All (AreToldApart s p) ps) ps → AreNamed s ps
+  named_by_all ps all = record {
+    pair = λ p q a b.
+        All-contains (AreToldApart s p) ps q (All-contains (λ x. All (AreToldApart s x) ps) ps p all a) b;
+  }
 
   -- the same of the patterns of keys
   pub named_by_keys : {K : Type 0} (g : K → NumberPattern) (keys : List K)
-      → All (λ k. All (λ l. AreToldApart s (g k) (g l)) keys) keys ↔ AreNamed s (map g keys)
-  named_by_keys g keys = (
-    λ all. (named_by_all (map g keys)).0
-        (All-map (λ p. All (AreToldApart s p) (map g keys)) g keys
-        (λ k d below. All-map (AreToldApart s (g (get_or keys k d))) g keys (all k d below))),
-    λ named k d below l e below'. named.pair _ _
-        (in_map g keys (get_or keys k d) (All-contains_itself keys k d below))
-        (in_map g keys (get_or keys l e) (All-contains_itself keys l e below')),
-  )
+      → All (λ k. All (λ l. AreToldApart s (g k) (g l)) keys) keys → AreNamed s (map g keys)
+  named_by_keys g keys all =
+      named_by_all (map g keys)
+      (All-map (λ p. All (AreToldApart s p) (map g keys)) g keys
+      (λ k d below. All-map (AreToldApart s (g (get_or keys k d))) g keys (all k d below)))
 
--- a test of their texts and signs
-pub told_by : (s : Symbols) (r : Bool) (a b : Affixes) (p q : NumberPattern) → a ≡ p.affixes → b ≡ q.affixes
-    → IsTrue r ↔ (((a ≡ b) × (p.sign ≡ q.sign) × (p.exponent ≡ q.exponent)) ⊎ ArePairApart s a b)
-    → IsTrue r ↔ AreToldApart s p q
-told_by s r a b p q first second test =
-    subst (λ x. IsTrue r ↔ (((p.affixes ≡ x) × (p.sign ≡ q.sign) × (p.exponent ≡ q.exponent))
-    ⊎ ArePairApart s p.affixes x)) second
-    (subst (λ x. IsTrue r ↔ (((x ≡ b) × (p.sign ≡ q.sign) × (p.exponent ≡ q.exponent)) ⊎ ArePairApart s x b)) first
-    test)
+  -- a test of their texts, signs and powers of ten
+  pub told_by : (r : Bool) (a b : Affixes) (n m : PatternName) (p q : NumberPattern) → a ≡ p.affixes → b ≡ q.affixes
+      → n ≡ name_of p → m ≡ name_of q
+      → IsTrue r ↔ (((a ≡ b) × (n.sign ≡ m.sign) × (n.exponent ≡ m.exponent)) ⊎ ArePairApart s a b)
+      → IsTrue r ↔ AreToldApart s p q
+  told_by r a b n m p q first second name other test = rw (first, second, name, other) at test
+
+  -- and one that fails
+  pub clash_by : (Is : NumberPattern → Type 0) (r : Bool) (n m : PatternName) (p q : NumberPattern) → Is q
+      → n ≡ name_of p → m ≡ name_of q → IsTrue r ↔ AreToldApart s p q → r ≡ false → ClashesWith s p Is (n, m)
+  clash_by Is r n m p q listed name other test fails =
+      (q, listed, λ i. (name i, other i), λ told. let t = test.1 told in absurd (cc))
 
 -- ---- The texts of pieces.
 

@@ -1,5 +1,5 @@
 -- A text of a unit without a number says the number that is shown.
-use Rattle.std.proofs.Common.{◌≡◌, ℕ, Bool, true, false, List, [], ◌++◌, inl, inr, refl, sym, ◌∙◌, ap, subst}
+use Rattle.std.proofs.Common.{◌≡◌, ℕ, Bool, true, false, List, ◌++◌, inl, inr, refl, sym, ◌∙◌, ap, subst}
 use Rattle.std.specs.Prelude.{◌⊎◌, Option, Some, None, IsSomeAnd, Result, Ok, Err}
 use Rattle.decimal_unsigned.specs.{Unsigned.{IsValue, integer_value}, declared.error.ParseError.{ParseError, TheVariants.Memory}}
 use Rattle.fixed_decimal.specs.{Decimal.{Decimal, displayed_sign}, declared.variations.{Sign.Sign, SignDisplay.SignDisplay}}

@@ -6,5 +6,5 @@ pub returns : goal.returns
 returns c =
     let n = c.args.self.now in
     subst (λ pattern. AreWideAffixes
-    (approximate_around n.formatter.now.style c.args.approximately n.value.sign pattern) c.approximate_affixes.result)
-    c.compact_pattern.ensures.value c.approximate_affixes.ensures
+    (approximate_around n.formatter.now.style c.args.approximately n.value.sign pattern) c.affixes.result)
+    c.compact_pattern.ensures.value c.affixes.ensures

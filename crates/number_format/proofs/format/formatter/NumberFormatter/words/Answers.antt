@@ -1,22 +1,16 @@
-use Rattle.std.proofs.Common.{◌≡◌, List, sym, ◌∙◌, ap, subst}
-use Rattle.std.specs.{Prelude.{true, Some, option_map}}
+use Rattle.std.proofs.Common.{◌≡◌, List, inr, sym, ◌∙◌, ap, subst}
+use Rattle.std.specs.{Prelude.{true, Some, option_map}, List.Contains}
 use Rattle.locale_data.specs.declared.compact.CompactStyle.{CompactStyle}
-use Rattle.number_format.specs.{declared.{format.formatter.NumberFormatter.NumberFormatter, read.pattern.NumberPattern.NumberPattern}, AffixedTexts.{AreNamed, AreToldApart}, CompactReading.{word_pattern, AreWordPatterns, AreWordsNamed}, NumberReading.{AreOwnWordsNamed, words_of}}
+use Rattle.number_format.specs.{declared.{format.formatter.NumberFormatter.NumberFormatter, read.{pattern.NumberPattern.NumberPattern, pattern_name.PatternName.PatternName}}, AffixedTexts.{AreNamed, HasClash}, CompactReading.{word_pattern, AreWordPatterns, AreWordsNamed, IsPatternOf}, NumberReading.{AreOwnWordsNamed, HasOwnWordClash, words_of}}
 use Rattle.number_format.proofs.format.formatter.NumberFormatter.words.Goals as goal
 
--- ---- The patterns of words are told apart where each two texts are.
+-- ---- The patterns of words, and each two texts.
 
 module _ (f : NumberFormatter) (style : CompactStyle) (patterns : List NumberPattern)
     (are : AreWordPatterns f style true patterns) where
-  named_of : AreWordsNamed f style → AreNamed f.style.symbols patterns
-  named_of each = record {
-    pair = λ p q has has'.
-        let k = are.only p has in
-        let l = are.only q has' in
-        subst (λ x. AreToldApart f.style.symbols x q) (sym k.is)
-        (subst (λ x. AreToldApart f.style.symbols (word_pattern f style k.key) x) (sym l.is)
-        (each k.key l.key k.has l.has));
-  }
+  clash_of : (names : PatternName × PatternName) → HasClash f.style.symbols (Contains patterns) names
+      → HasClash f.style.symbols (IsPatternOf f style true) names
+  clash_of names (p, has, (q, has', named, apart)) = (p, are.only p has, (q, are.only q has', named, apart))
 
   each_of : AreNamed f.style.symbols patterns → AreWordsNamed f style
   each_of named k l has has' =
@@ -24,29 +18,21 @@ module _ (f : NumberFormatter) (style : CompactStyle) (patterns : List NumberPat
 
 -- ---- The contract.
 
-pub returns-then-not-are_named-clause-err : goal.returns-then-not-are_named-clause-err
-returns-then-not-are_named-clause-err c =
+pub returns-in-Some-find_clash-clause-err : goal.returns-in-Some-find_clash-clause-err
+returns-in-Some-find_clash-clause-err c =
     let f = c.args.self.now in
-    let style = c.in-Some.style in
-    let words : words_of f ≡ Some style = sym c.compact_style.ensures ∙ c.in-Some.is in (
-      c.requires.undo,
-      (
-        c.requires.readable,
-        λ h.
-            let each : AreWordsNamed f style = subst (AreOwnWordsNamed f) words h.1 in
-            let named = named_of f style c.in-Ok.patterns.items c.in-Ok.ensures each in
-            let t = c.are_named.ensures.1 (subst (AreNamed f.style.symbols) (sym c.as_slice.ensures.value) named) in
-            absurd (cc (t, c.if-not-are_named.true)),
-      ),
-    )
+    let names : PatternName × PatternName = (c.in-Some-find_clash.first, c.in-Some-find_clash.second) in
+    let words : words_of f ≡ Some c.in-Some.style = sym c.compact_style.ensures ∙ c.in-Some.is in
+    let clash = clash_of f c.in-Some.style c.in-Ok.patterns.items c.in-Ok.ensures names
+    (rw c.as_slice.ensures.value at c.in-Some-find_clash.ensures) in
+    (c.requires.undo, (c.requires.readable, inr (subst (λ w. HasOwnWordClash f w names) (sym words) clash)))
 
 pub returns-clause-ok : goal.returns-clause-ok
 returns-clause-ok c =
     let f = c.args.self.now in
     let style = c.in-Some.style in
     let words : words_of f ≡ Some style = sym c.compact_style.ensures ∙ c.in-Some.is in
-    let named = subst (AreNamed f.style.symbols) c.as_slice.ensures.value
-    (c.are_named.ensures.0 c.if-not-are_named.false) in (
+    let named = subst (AreNamed f.style.symbols) c.as_slice.ensures.value c.in_default-find_clash.ensures in (
       ap Some (c.new.ensures ∙ ap (λ (g : NumberFormatter). (g, style)) c.copied.ensures)
           ∙ ap (option_map (λ style. (f, style))) (sym words),
       subst (AreOwnWordsNamed f) (sym words) (each_of f style c.in-Ok.patterns.items c.in-Ok.ensures named),

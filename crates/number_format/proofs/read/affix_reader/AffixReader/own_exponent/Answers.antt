@@ -1,14 +1,10 @@
-use Rattle.std.proofs.{Common.{◌≡◌, ◌<◌, ◌≤◌, Ok, Err, inl, inr, ap, sym, subst, arith, rules, to_z, of_z, FitsSigned, w32}, lemmas.{Bool.cases_lt, Int.ints}}
+use Rattle.std.proofs.{Common.{◌≡◌, ◌<◌, inl, inr, ap, subst, arith, rules, to_z, of_z, FitsSigned, w32}, lemmas.{Bool.cases_lt, Int.ints}}
 use Rattle.decimal_digits.specs.Number.{size}
 use Rattle.fixed_decimal.specs.Decimal.{Decimal}
-use Rattle.decimal_format.specs.Readable.{IsReadable}
 use Rattle.locale_data.specs.Plurals.{IsCategoryAt}
-use Rattle.number_format.specs.{AffixedTexts.{Reader, AreNamed}, NumberText.operands_with}
-use Rattle.number_format.proofs.lemmas.read.OwnExponents.{not_copied, beyond_limits, own_category, other_category}
+use Rattle.number_format.specs.{AffixedTexts.Reader, NumberText.operands_with}
+use Rattle.number_format.proofs.lemmas.read.{AffixedNumbers.IsReader, OwnExponents.{not_copied, beyond_limits, own_category, other_category}}
 use Rattle.number_format.proofs.read.affix_reader.AffixReader.own_exponent.Goals as goal
-
-abbrev CanRead : Reader → Type 0
-CanRead r = IsReadable r.symbols × AreNamed r.symbols r.patterns
 
 pub returns-in_default : goal.returns-in_default
 returns-in_default g c =
@@ -17,7 +13,7 @@ returns-in_default g c =
     let inside : Reader =
     record { symbols = self.symbols; patterns = self.patterns.items; rules = self.rules; shift = self.shift } in
     let view : inside ≡ r = cc in
-    let can : CanRead r = subst CanRead view c.self.invariant in
+    let can : IsReader r = subst IsReader view c.self.invariant in
     let long : g.D.DigitStore.L < size c.args.significand.absolute.number =
     elim (cases_lt g.D.DigitStore.L (size c.args.significand.absolute.number)) [
       | inl h ↦ h
@@ -33,7 +29,7 @@ returns-in-Err g c =
     let inside : Reader =
     record { symbols = self.symbols; patterns = self.patterns.items; rules = self.rules; shift = self.shift } in
     let view : inside ≡ r = cc in
-    let can : CanRead r = subst CanRead view c.self.invariant in
+    let can : IsReader r = subst IsReader view c.self.invariant in
     let fits : FitsSigned w32 c.args.exponent = search rules in
     let same : to_z w32 (of_z w32 c.args.exponent) ≡ c.args.exponent = omega (arith, ints, fits) in
     beyond_limits r c.args.form.now c.args.text.now g.D.DigitStore.L can.0 can.1 c.args.pattern.now c.args.middle.now
@@ -47,7 +43,7 @@ returns-in_default-split g c =
     let inside : Reader =
     record { symbols = self.symbols; patterns = self.patterns.items; rules = self.rules; shift = self.shift } in
     let view : inside ≡ r = cc in
-    let can : CanRead r = subst CanRead view c.self.invariant in
+    let can : IsReader r = subst IsReader view c.self.invariant in
     let fits : FitsSigned w32 c.args.exponent = search rules in
     let same : to_z w32 (of_z w32 c.args.exponent) ≡ c.args.exponent = omega (arith, ints, fits) in
     let symbols : self.symbols ≡ r.symbols = cc in
@@ -69,7 +65,7 @@ returns g c =
     let inside : Reader =
     record { symbols = self.symbols; patterns = self.patterns.items; rules = self.rules; shift = self.shift } in
     let view : inside ≡ r = cc in
-    let can : CanRead r = subst CanRead view c.self.invariant in
+    let can : IsReader r = subst IsReader view c.self.invariant in
     let fits : FitsSigned w32 c.args.exponent = search rules in
     let same : to_z w32 (of_z w32 c.args.exponent) ≡ c.args.exponent = omega (arith, ints, fits) in
     let symbols : self.symbols ≡ r.symbols = cc in

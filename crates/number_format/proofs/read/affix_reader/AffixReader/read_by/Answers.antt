@@ -1,11 +1,8 @@
 use Rattle.std.proofs.Common.{◌≡◌, Ok, Err, subst}
-use Rattle.decimal_format.specs.{Readable.IsReadable, Reading.{IsNumeral, IsWritten, IsRead}}
-use Rattle.number_format.specs.AffixedTexts.{Reader, AreNamed}
-use Rattle.number_format.proofs.lemmas.read.AffixedNumbers.{by_pattern, read_between}
+use Rattle.decimal_format.specs.{Reading.{IsNumeral, IsWritten, IsRead}}
+use Rattle.number_format.specs.AffixedTexts.{Reader}
+use Rattle.number_format.proofs.lemmas.read.AffixedNumbers.{IsReader, by_pattern, read_between}
 use Rattle.number_format.proofs.read.affix_reader.AffixReader.read_by.Goals as goal
-
-abbrev CanRead : Reader → Type 0
-CanRead r = IsReadable r.symbols × AreNamed r.symbols r.patterns
 
 pub returns-in-Ok-clause-read : goal.returns-in-Ok-clause-read
 returns-in-Ok-clause-read g c =
@@ -13,7 +10,7 @@ returns-in-Ok-clause-read g c =
     let inside : Reader =
     record { symbols = self.symbols; patterns = self.patterns.items; rules = self.rules; shift = self.shift } in
     let view : inside ≡ c.args.self.now = cc in
-    let can : CanRead c.args.self.now = subst CanRead view c.self.invariant in
+    let can : IsReader c.args.self.now = subst IsReader view c.self.invariant in
     let middle = c.args.middle.now in
     rw c.with_sign.ensures
     (read_between c.args.self.now c.args.text.now can.0 can.1 c.args.pattern.now middle c.requires
@@ -27,7 +24,7 @@ returns-in-Ok-clause-by g c =
     let inside : Reader =
     record { symbols = self.symbols; patterns = self.patterns.items; rules = self.rules; shift = self.shift } in
     let view : inside ≡ c.args.self.now = cc in
-    let can : CanRead c.args.self.now = subst CanRead view c.self.invariant in
+    let can : IsReader c.args.self.now = subst IsReader view c.self.invariant in
     let read = returns-in-Ok-clause-read g c in
     by_pattern c.args.self.now c.args.text.now can.0 can.1 c.args.pattern.now c.args.middle.now c.requires _
     read.found.0 read.found.1
@@ -38,7 +35,7 @@ returns-in-Err-clause-read g c =
     let inside : Reader =
     record { symbols = self.symbols; patterns = self.patterns.items; rules = self.rules; shift = self.shift } in
     let view : inside ≡ c.args.self.now = cc in
-    let can : CanRead c.args.self.now = subst CanRead view c.self.invariant in
+    let can : IsReader c.args.self.now = subst IsReader view c.self.invariant in
     let middle = c.args.middle.now in
     read_between c.args.self.now c.args.text.now can.0 can.1 c.args.pattern.now middle c.requires g.D.DigitStore.L
     (Err c.in-Err.error)
