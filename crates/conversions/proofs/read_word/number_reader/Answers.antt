@@ -27,4 +27,7 @@ not_read (NumberReaderError.Affixes a b) f other (undo, (readable, inr clash)) c
     no_words f (words_of f) (a, b) can.words clash
 
 pub returns-in-Err : goal.returns-in-Err
-returns-in-Err c = record { ok = tt; err = not_read c.in-Err.field-0 c.args.formatter (search rules) c.in-Err.ensures.err }
+returns-in-Err c = record {
+  ok = tt;
+  err = not_read c.in-Err.field-0 c.args.formatter (search rules) c.in-Err.ensures.err;
+}
