@@ -28,6 +28,8 @@ copy_repository() {
   mkdir "$1"
   git ls-files -z | tar cf - --null --ignore-failed-read -T - 2> "$room/log" | tar xf - -C "$1"
   for out in crates/*/out; do
+    # Without any, as in a new clone, it is the pattern.
+    [ -d "$out" ] || continue
     mkdir -p "$1/$out"
     [ "${2:-}" = '' ] || [ ! -d "$out/rlib" ] ||
       cp -rl "$out/rlib" "$1/$out/" 2> "$room/log" || cp -r "$out/rlib" "$1/$out/"
