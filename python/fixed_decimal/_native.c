@@ -1459,12 +1459,14 @@ static int bind_call(Work *work, PyObject *word) {
         return PyErr_Format(PyExc_ValueError, "no such call: %U", word), 0;
     found.call.text_start += work->texts.count;
     if (!append(&work->texts, bytes, (size_t)count)) return 0;
-    /* An operand that is no decimal would fail with each text: it is rejected as a word is. */
-    uint8_t zero = '0', room[1];
-    const uint8_t *texts = (const uint8_t *)work->texts.bytes;
-    fd_result tried = fd_run(&zero, 1, &found.call, 1, texts, work->texts.count, room, 0);
-    if (tried.status == FD_OPERAND_SYNTAX || tried.status == FD_OPERAND_LIMIT)
-        return fail_str(tried.status, work->call_count, word), 0;
+    if (found.call.kind == FD_CONCAT) {
+        /* An operand that is no decimal would fail with each text: it is rejected as a word is. */
+        uint8_t room[1];
+        const uint8_t *texts = (const uint8_t *)work->texts.bytes, zero = '0';
+        fd_result tried = fd_run(&zero, 1, &found.call, 1, texts, work->texts.count, room, 0);
+        if (tried.status == FD_OPERAND_SYNTAX || tried.status == FD_OPERAND_LIMIT)
+            return fail_str(tried.status, work->call_count, word), 0;
+    }
     work->calls[work->call_count++] = found.call;
     return 1;
 }

@@ -5,7 +5,8 @@ use plural_rules::PluralCategory;
 
 /// What the texts around a number say of it: in `de` ` Tage` follows numbers of the plural category `other`.
 ///
-/// Two of them tell which texts are not told apart. In `vec` in compact notation both 1 and 1000 have the text `1`:
+/// Two of them name the texts that cannot be told apart. In `vec` in compact notation both 1 and 1000 have the text
+/// `1`:
 ///
 /// ```
 /// let error = formatter.reader(alloc).unwrap_err();
