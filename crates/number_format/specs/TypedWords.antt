@@ -1,10 +1,10 @@
 -- Words of compact notation as people type them.
-use Rattle.std.specs.{Prelude.{◌≡◌, ◌≢◌, ℕ, zero, suc, ◌*◌, ◌<◌, ◌⊎◌, ◌==◌, Bool, true, not, ◌||◌, List, [], ◌∷◌, ◌++◌, map, filter, length, Option, Some, unwrap_or, slice_get, Result, Err, ℤ}, Str.{NonePass, chars, encode_utf8_all}, Char.Unicode.{Numeric.is_numeric, ToLowercase.to_lowercase}}
+use Rattle.std.specs.{Prelude.{◌≡◌, ◌≢◌, ℕ, zero, suc, ◌*◌, ◌<◌, ◌⊎◌, ◌==◌, Bool, true, not, ◌&&◌, ◌||◌, if◌then◌else◌, List, [], ◌∷◌, ◌++◌, map, filter, length, Option, Some, unwrap_or, slice_get, Result, Err, ℤ}, Str.{NonePass, chars, encode_utf8_all}, Char.Unicode.{Numeric.is_numeric, ToLowercase.to_lowercase}}
 use Rattle.decimal_unsigned.specs.declared.error.ParseError.{ParseError, TheVariants.Syntax}
 use Rattle.fixed_decimal.specs.Decimal.{Decimal}
 use Rattle.decimal_format.specs.declared.reader.alternatives.Alternative.{Alternative}
-use Rattle.locale_data.specs.{Compact.{pattern_for, compact_patterns, text_of}, declared.{compact.CompactStyle.CompactStyle, tables.rows.compact.CompactPattern.CompactPattern}}
-use Rattle.number_format.specs.{declared.{format.{formatter.NumberFormatter.NumberFormatter, outer.OuterTexts.OuterTexts}, read.compact.{keys.CompactKey.CompactKey, typed.TypedText.TypedText}}, AffixedTexts.{Reader, IsShifted, IsOrElse, IsReadWith}, CompactReading.{key_at, is_single, IsReadOrAny}, Scaled.exponent_at, TrimmedTexts.is_trimmed}
+use Rattle.locale_data.specs.{Compact.{pattern_for, compact_patterns, text_of}, declared.{compact.CompactStyle.CompactStyle, tables.rows.compact.{AffixText.AffixText, CompactPattern.CompactPattern}}}
+use Rattle.number_format.specs.{declared.{format.{formatter.NumberFormatter.NumberFormatter, outer.OuterTexts.OuterTexts}, read.compact.{keys.CompactKey.CompactKey, typed.TypedText.TypedText}}, AffixedTexts.{Reader, IsShifted, IsOrElse, IsReadWith}, CompactReading.{key_at, is_single, IsReadOrAny}, NumberText.is_empty, Scaled.exponent_at, TrimmedTexts.is_trimmed}
 
 -- ---- Words.
 
@@ -45,6 +45,13 @@ pub record IsWithoutWord (word front tail left : List ℕ) : Type 0 where
   pub follows : FollowsWord (folded word) tail rest
   pub is : left ≡ encode_utf8_all (front ++ rest)
 
+-- the text begins with the word, and this is left after it
+pub record IsAfterWord (word text left : List ℕ) : Type 0 where
+  pub some : folded word ≢ []
+  pub rest : List ℕ
+  pub follows : FollowsWord (folded word) text rest
+  pub is : left ≡ encode_utf8_all rest
+
 -- the word does not follow the last digit, or more than 255 bytes are left
 abbrev pub IsNoneLeft : List ℕ → List ℕ → List ℕ → Type 0
 IsNoneLeft word front tail =
@@ -57,15 +64,38 @@ IsNoneLeft word front tail =
 abbrev pub word_key : ℕ → CompactKey
 word_key i = key_at (18 * i)
 
--- the text after a number, up to a currency; beside a unit or a name none, since `5m` may be meters or millions
+-- nothing of the text is compared
+abbrev pub is_no_word : List ℕ → Bool
+is_no_word text = is_empty (folded (chars text))
+
+abbrev pub has_no_word : AffixText → Bool
+has_no_word affix = is_no_word (text_of affix.before) && is_no_word (text_of affix.after)
+
+-- the text after a currency, or all of it
+abbrev pub last_text : AffixText → List ℕ
+last_text affix = text_of (if affix.has_currency then affix.after else affix.before)
+
+-- the text after a number, up to a currency, if it has no word before it; beside a unit or a name none, since `5m` may
+-- be meters or millions
 abbrev pub text_after : OuterTexts → Option CompactPattern → List ℕ
-text_after OuterTexts.None (Some p) = text_of p.suffix.before
+text_after OuterTexts.None (Some p) = if has_no_word p.prefix then text_of p.suffix.before else []
 text_after texts pattern = []
 
+-- the text before a number, if it has no word after it, as `elfu` in Swahili
+abbrev pub text_before : OuterTexts → Option CompactPattern → List ℕ
+text_before OuterTexts.None (Some p) = if has_no_word p.suffix then last_text p.prefix else []
+text_before texts pattern = []
+
+-- the pattern of these keys
+abbrev pub word_pattern_of : NumberFormatter → CompactStyle → ℕ → Option CompactPattern
+word_pattern_of f style i =
+    pattern_for (word_key i).category (is_single (word_key i)) (compact_patterns f.formats style (word_key i).magnitude)
+
 abbrev pub word_of : NumberFormatter → CompactStyle → ℕ → List ℕ
-word_of f style i =
-    text_after f.outer (pattern_for (word_key i).category (is_single (word_key i))
-    (compact_patterns f.formats style (word_key i).magnitude))
+word_of f style i = text_after f.outer (word_pattern_of f style i)
+
+abbrev pub word_before_of : NumberFormatter → CompactStyle → ℕ → List ℕ
+word_before_of f style i = text_before f.outer (word_pattern_of f style i)
 
 abbrev pub power_of : NumberFormatter → ℕ → ℤ
 power_of f i = exponent_at f.notation (word_key i).magnitude
@@ -83,12 +113,24 @@ pub record Typing : Type 0 where
   pub front : List ℕ
   pub tail : List ℕ
 
--- what is read without a word, times its power of ten
+-- what is read of the text that is left without a word, times the power of ten of the word
+abbrev pub IsReadLeft : Typing → ℕ → List ℕ → Result Decimal ParseError → Type 0
+IsReadLeft t i left = IsShifted (power_of t.formatter i) (IsReadWith t.inline t.plain t.alternatives left)
+
+-- what is read after the word before a number
+abbrev pub IsReadAfter : Typing → ℕ → Result Decimal ParseError → Type 0
+IsReadAfter t i result =
+    ((left : List ℕ) × IsAfterWord (chars (word_before_of t.formatter t.style i)) (chars t.text) left
+    × IsReadLeft t i left result)
+    ⊎ (((left : List ℕ) → ¬ IsAfterWord (chars (word_before_of t.formatter t.style i)) (chars t.text) left)
+    × (result ≡ Err Syntax))
+
+-- what is read without a word
 abbrev pub IsReadWithout : Typing → ℕ → Result Decimal ParseError → Type 0
 IsReadWithout t i result =
     ((left : List ℕ) × IsWithoutWord (chars (word_of t.formatter t.style i)) t.front t.tail left
-    × IsShifted (power_of t.formatter i) (IsReadWith t.inline t.plain t.alternatives left) result)
-    ⊎ (IsNoneLeft (chars (word_of t.formatter t.style i)) t.front t.tail × (result ≡ Err Syntax))
+    × IsReadLeft t i left result)
+    ⊎ (IsNoneLeft (chars (word_of t.formatter t.style i)) t.front t.tail × IsReadAfter t i result)
 
 -- the meanings of a text: without a word, as the magnitude 2 has none, and by each word
 abbrev pub IsMeaning : Typing → ℕ → Result Decimal ParseError → Type 0

@@ -4,7 +4,7 @@ ghost use Rattle.decimal_format.specs.{Readable.IsReadable};
 ghost use Rattle.number_format.specs.{AffixedTexts.{AreNamed, shifted}, CompactReading.{word_pattern, magnitude_by, HasCompactExponents, HasTextsOf, HasOwnTexts, HasPowerOf, HidesSigns, IsKeyBy, IsOwnPattern, IsOwnOr, IsReadByNumber, IsReadShownInWords, IsReadInAnyWords, IsReadOrAny, IsReadInWords, AreWordPatterns}, Scaled.IsOrdered, TypedWords.IsTypedInWords};
 
 mod apart;
-mod keys;
+pub(crate) mod keys;
 mod typed;
 pub(crate) mod whole;
 mod words;

@@ -546,10 +546,11 @@ impl NumberReader {
     ///
     /// A text that [`read`](Self::read) accepts has the same value. In compact notation, else the words may be those of
     /// any magnitude and category: `1250K` is 1250000, and `0.5M` is 0500000. Else, if no unit and no name of a
-    /// currency is written, a word after the last digit is taken out, and white space after it: `1.2 k` is 1200. White
-    /// space, direction marks and periods in the word do not matter, nor does the case of each letter. If words of
-    /// different powers of ten fit, or a word and none, the text is `Syntax`; so is one of which more than 255 bytes
-    /// are left.
+    /// currency is written, a word after the last digit is taken out, and white space after it: `1.2 k` is 1200. If the
+    /// formatter writes the word before the number, the text begins with it: `Elfu1.2` is 1200 in `sw`. White space,
+    /// direction marks and periods in the word do not matter, nor does the case of each letter. If words of different
+    /// powers of ten fit, or a word and none, the text is `Syntax`; so is one of which more than 255 bytes are left
+    /// before and after a word.
     ///
     /// Else, or without the word, the number has no exponent, and is as
     /// [`DecimalSymbols::read_lenient`](decimal_format::DecimalSymbols::read_lenient) accepts it. Around it may be what

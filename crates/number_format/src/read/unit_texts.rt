@@ -6,6 +6,7 @@ ghost use Rattle.number_format.specs.{CompactReading.HasNoDigit, FormattedNumber
 use crate::format::formatter::NumberFormatter;
 use crate::format::outer::{OuterAround, OuterTexts};
 use crate::options::{NumberNotation, NumberOptions};
+use crate::read::compact::keys::category_at;
 use crate::read::compact::whole::has_no_digit;
 use crate::read::owned_affixes::are_joined;
 use crate::read::pattern::{pair_text, short_text};
@@ -140,23 +141,11 @@ impl NumberFormatter {
     pub(crate) fn category_without_number(&self) -> Option<PluralCategory>
         ensures { MatchOption result (AreCategoriesRead self.now) (IsCategoryUnread self.now) }
     {
-        if !self.is_category_read(Zero) {
-            return Some(Zero);
-        }
-        if !self.is_category_read(One) {
-            return Some(One);
-        }
-        if !self.is_category_read(Two) {
-            return Some(Two);
-        }
-        if !self.is_category_read(Few) {
-            return Some(Few);
-        }
-        if !self.is_category_read(Many) {
-            return Some(Many);
-        }
-        if !self.is_category_read(Other) {
-            return Some(Other);
+        for index in 0..6 {
+            let category = category_at(index);
+            if !self.is_category_read(category) {
+                return Some(category);
+            }
         }
         None
     }

@@ -1,10 +1,11 @@
 -- Characters that are compared where words are typed.
-use Rattle.std.proofs.{Common.{◌≡◌, ℕ, List, [], ◌∷◌, ◌++◌, ◌∙◌, ap, sym, refl, ◌≢◌, true, false, inl, inr, append_assoc, subst}, lemmas.{Bool.cases_Bool, List.append_cancel_left, Str.{chars-append, encodes-append, encodes-chars, encodes_same}}}
+use Rattle.std.proofs.{Common.{◌≡◌, ℕ, List, [], ◌∷◌, ◌++◌, ◌∙◌, ap, sym, refl, ◌≢◌, true, false, inl, inr, append_assoc, subst, arith, to_z, of_z, w16, w32, FitsSigned}, lemmas.{Bool.cases_Bool, Int.{ints, to_z-of_z}, List.append_cancel_left, Str.{chars-append, encodes-append, encodes-chars, encodes_same}}}
 use Rattle.std.specs.Str.{IsUtf8, chars, encode_utf8_all}
-use Rattle.std.specs.Prelude.{zero, suc, Result}
+use Rattle.std.specs.Prelude.{zero, suc, Result, ℤ, pos, ◌≤ℤ◌}
 use Rattle.decimal_unsigned.specs.declared.error.ParseError.{ParseError}
 use Rattle.fixed_decimal.specs.Decimal.{Decimal}
-use Rattle.number_format.specs.TypedWords.{is_kept, lowered, folded, IsSkipped, IsKeptFirst, FollowsWord, IsCut, IsWithoutWord, IsReadWithout, IsMeaning, Typing}
+use Rattle.number_format.specs.NumberText.{is_empty}
+use Rattle.number_format.specs.TypedWords.{is_kept, lowered, folded, IsSkipped, IsKeptFirst, FollowsWord, IsCut, IsAfterWord, IsWithoutWord, IsReadWithout, IsMeaning, Typing}
 
 folded_kept : (c : ℕ) (cs : List ℕ) → is_kept c ≡ true → folded (c ∷ cs) ≡ lowered c ∷ folded cs
 folded_kept c cs kept = rw kept
@@ -132,6 +133,26 @@ module _ (word others : List ℕ) (w : ℕ) (first : IsKeptFirst word w others) 
     follows = follows;
     is = is ∙ joined_parts front rest utf8 also;
   }
+
+pub after_own_word : (word text others left : List ℕ) (w : ℕ) → IsKeptFirst word w others → IsUtf8 left
+    → FollowsWord (folded word) text (chars left) → IsAfterWord word text left
+after_own_word word text others left w first utf8 follows = record {
+  some = λ none. absurd (let e = folded_first word others w first in cc);
+  rest = chars left;
+  follows = follows;
+  is = sym (encodes-chars left utf8);
+}
+
+pub has_letter : (cs rest : List ℕ) (c : ℕ) → IsKeptFirst cs c rest → is_empty (folded cs) ≡ false
+has_letter cs rest c is = ap is_empty (folded_first cs rest c is)
+
+-- a power of ten is kept as a 16-bit integer
+pub kept_power : (power : ℤ) → pos 0 ≤ℤ power → power ≤ℤ pos 255
+    → to_z w16 (of_z w16 (to_z w32 (of_z w32 power))) ≡ power
+kept_power power least most =
+    let wide : FitsSigned w32 power = omega (arith, ints, least, most) in
+    let narrow : FitsSigned w16 power = omega (arith, ints, least, most) in
+    ap (λ z. to_z w16 (of_z w16 z)) (to_z-of_z w32 power wide) ∙ to_z-of_z w16 power narrow
 
 pub by_word : (t : Typing) (i : ℕ) (found : Result Decimal ParseError) → i ≢ 0 → IsReadWithout t i found
     → IsMeaning t i found

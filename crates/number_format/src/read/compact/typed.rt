@@ -1,7 +1,8 @@
 //! Words of compact notation as people type them: with other spaces, without periods, in capitals or small letters.
-ghost use Rattle.std.specs.{Prelude.{◌≡◌, ◌≢◌, ℕ, [], ◌∷◌, ◌++◌, ◌↔◌, ◌<◌, ◌≤◌, ◌≤ℤ◌, pos, Err, List, length, take, MatchOption, IsTrue}, Bool.{OnTrue, OnFalse}, Str.{chars, IsUtf8}};
+ghost use Rattle.std.specs.{Prelude.{◌≡◌, ◌≢◌, ℕ, [], ◌∷◌, ◌++◌, ◌↔◌, ◌<◌, ◌≤◌, ◌≤ℤ◌, pos, Err, List, length, take, MatchOption, IsTrue, true}, Bool.{OnTrue, OnFalse}, Str.{chars, IsUtf8}};
 ghost use Rattle.decimal_unsigned.specs.declared.error.ParseError.{TheVariants.Syntax};
-ghost use Rattle.number_format.specs.TypedWords.{is_kept, lowered, folded, IsCut, IsSkipped, IsKeptFirst, FollowsWord, IsWithoutWord, IsNoneLeft, word_of, power_of, IsReadWithout, IsMeaning, Fits, HasOther, HasNoOther, IsOneMeaning, IsReadByWord, typing};
+ghost use Rattle.locale_data.specs.Compact.{has_texts};
+ghost use Rattle.number_format.specs.TypedWords.{is_kept, lowered, folded, IsCut, IsSkipped, IsKeptFirst, FollowsWord, IsAfterWord, IsWithoutWord, IsNoneLeft, is_no_word, has_no_word, last_text, word_of, word_before_of, power_of, IsReadLeft, IsReadAfter, IsReadWithout, IsMeaning, Fits, HasOther, HasNoOther, IsOneMeaning, IsReadByWord, typing};
 
 use crate::format::formatter::NumberFormatter;
 use crate::format::outer::OuterTexts;
@@ -12,7 +13,7 @@ use crate::read::compact::keys::key_at;
 use arrayvec::ArrayString;
 use decimal_format::internal::Alternative;
 use fixed_decimal::{DigitStore, ParseError, Signed, UnsignedOver};
-use locale_data::CompactStyle;
+use locale_data::{AffixText, CompactStyle};
 use std::alloc::Global;
 
 fn is_kept(c: char) -> bool
@@ -123,6 +124,42 @@ fn without_word(front: &str, tail: &str, word: &str) -> Option<ArrayString<255>>
     Some(left)
 }
 
+fn after_some_word<'t>(text: &'t str, word: &str) -> Option<&'t str>
+    ensures { MatchOption result
+        ((left : List ℕ) → ¬ IsAfterWord (chars word.now) (chars text.now) left)
+        (λ left. IsAfterWord (chars word.now) (chars text.now) left.now) }
+{
+    split_kept(word)?;
+    let left = after_word(text, word)?;
+    Some(left)
+}
+
+fn is_no_word(text: &str) -> bool
+    ensures { result ≡ is_no_word text.now }
+{
+    match split_kept(text) {
+        Some(_) => false,
+        None => true,
+    }
+}
+
+fn has_no_word(affix: &AffixText) -> bool
+    requires { has_texts affix.now ≡ true }
+    ensures { result ≡ has_no_word affix.now }
+{
+    is_no_word(affix.before_text()) && is_no_word(affix.after_text())
+}
+
+fn last_text(affix: &AffixText) -> &'static str
+    requires { has_texts affix.now ≡ true }
+    ensures { result.now ≡ last_text affix.now }
+{
+    if affix.has_currency {
+        return affix.after_text();
+    }
+    affix.before_text()
+}
+
 /// A typed text, cut after its last digit, and what it is read by: the words of a formatter, and a reader of numbers
 /// without words, with what may be around these.
 #[derive(Clone, Copy)]
@@ -153,9 +190,51 @@ impl TypedText<'_> {
     {
         let pattern = self.formatter.word(self.style, key_at(18 * index));
         match (&self.formatter.outer, pattern) {
-            (OuterTexts::None, Some(pattern)) => pattern.suffix.before_text(),
+            (OuterTexts::None, Some(pattern)) if has_no_word(&pattern.prefix) => {
+                pattern.suffix.before_text()
+            }
             _ => "",
         }
+    }
+
+    fn word_before(&self, index: usize) -> &'static str
+        requires { index < 216 }
+        ensures { result.now ≡ word_before_of self.now.formatter.now self.now.style index }
+    {
+        let pattern = self.formatter.word(self.style, key_at(18 * index));
+        match (&self.formatter.outer, pattern) {
+            (OuterTexts::None, Some(pattern)) if has_no_word(&pattern.suffix) => {
+                last_text(&pattern.prefix)
+            }
+            _ => "",
+        }
+    }
+
+    fn read_left<D: DigitStore>(
+        &self,
+        alloc: Global,
+        index: usize,
+        left: &str,
+    ) -> Result<Signed<UnsignedOver<D>>, ParseError>
+        requires { index < 216 }
+        ensures { IsReadLeft (typing D.L self.now) index left.now result }
+    {
+        let read = self.plain.read_typed(alloc, self.alternatives, left);
+        shifted(read, self.power(index) as i16)
+    }
+
+    fn read_after_word<D: DigitStore>(
+        &self,
+        alloc: Global,
+        index: usize,
+    ) -> Result<Signed<UnsignedOver<D>>, ParseError>
+        requires { index < 216 }
+        ensures { IsReadAfter (typing D.L self.now) index result }
+    {
+        let Some(left) = after_some_word(self.text, self.word_before(index)) else {
+            return Err(ParseError::Syntax);
+        };
+        self.read_left(alloc, index, left)
     }
 
     fn read_without_word<D: DigitStore>(
@@ -167,12 +246,9 @@ impl TypedText<'_> {
         ensures { IsReadWithout (typing D.L self.now) index result }
     {
         let Some(left) = without_word(self.front, self.tail, self.word(index)) else {
-            return Err(ParseError::Syntax);
+            return self.read_after_word(alloc, index);
         };
-        let read = self
-            .plain
-            .read_typed(alloc, self.alternatives, left.as_str());
-        shifted(read, self.power(index) as i16)
+        self.read_left(alloc, index, left.as_str())
     }
 
     fn read_meaning<D: DigitStore>(
@@ -252,10 +328,12 @@ impl TypedText<'_> {
 }
 
 impl NumberFormatter {
-    /// Reads a number as people type it, with a word after its last digit or without one.
+    /// Reads a number as people type it, with a word after its last digit, or one that the text begins with, or without
+    /// one.
     ///
     /// In the word white space, marks, periods and the case of letters do not matter. A text with two meanings, by
-    /// words of different powers of ten, is `Syntax`. Beside a unit or the name of a currency no word is typed: `5m`
+    /// words of different powers of ten, is `Syntax`. So is one whose word belongs to a pattern with another word on
+    /// the other side of the number. Beside a unit or the name of a currency no word is typed: `5m`
     /// may be 5 meters, or 5 million.
     pub(crate) fn read_typed_word<D: DigitStore>(
         &self,

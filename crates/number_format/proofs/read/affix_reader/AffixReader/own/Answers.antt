@@ -1,17 +1,12 @@
 use Rattle.std.proofs.Common.{◌≡◌, inl, inr, refl, subst}
-use Rattle.number_format.specs.{AffixedTexts.Reader}
 use Rattle.number_format.proofs.lemmas.read.AffixedNumbers.{IsReader, shown_by, not_shown}
 use Rattle.number_format.proofs.read.affix_reader.AffixReader.own.Goals as goal
 
 pub returns-in-Some : goal.returns-in-Some
 returns-in-Some g c =
-    let self = c.self.inside in
     let r = c.args.self.now in
-    let inside : Reader =
-    record { symbols = self.symbols; patterns = self.patterns.items; rules = self.rules; shift = self.shift } in
-    let view : inside ≡ r = cc in
-    let can : IsReader r = subst IsReader view c.self.invariant in
-    let symbols : self.symbols ≡ r.symbols = cc in
+    let can : IsReader r = subst IsReader c.self.view_is c.self.invariant in
+    let symbols : c.self.inside.symbols ≡ r.symbols = cc in
     let patterns : c.as_slice.result.now ≡ r.patterns = cc in
     inl (
       shown_by r c.args.text.now can.1 c.args.value c.requires.valid c.category-category.result
@@ -22,14 +17,10 @@ returns-in-Some g c =
 
 pub returns-in-None-split : goal.returns-in-None-split
 returns-in-None-split g c =
-    let self = c.self.inside in
     let r = c.args.self.now in
-    let inside : Reader =
-    record { symbols = self.symbols; patterns = self.patterns.items; rules = self.rules; shift = self.shift } in
-    let view : inside ≡ r = cc in
-    let symbols : self.symbols ≡ r.symbols = cc in
+    let symbols : c.self.inside.symbols ≡ r.symbols = cc in
     let patterns : c.as_slice.result.now ≡ r.patterns = cc in
-    let can : IsReader r = subst IsReader view c.self.invariant in
+    let can : IsReader r = subst IsReader c.self.view_is c.self.invariant in
     inr (
       not_shown r c.args.text.now can.1 c.args.value c.requires.valid c.category-category.result
           c.category-category.ensures (rw (symbols, patterns) at c.in-None-split.ensures),

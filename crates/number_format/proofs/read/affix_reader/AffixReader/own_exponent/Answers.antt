@@ -2,18 +2,14 @@ use Rattle.std.proofs.{Common.{◌≡◌, ◌<◌, inl, inr, ap, subst, arith, r
 use Rattle.decimal_digits.specs.Number.{size}
 use Rattle.fixed_decimal.specs.Decimal.{Decimal}
 use Rattle.locale_data.specs.Plurals.{IsCategoryAt}
-use Rattle.number_format.specs.{AffixedTexts.Reader, NumberText.operands_with}
+use Rattle.number_format.specs.{NumberText.operands_with}
 use Rattle.number_format.proofs.lemmas.read.{AffixedNumbers.IsReader, OwnExponents.{not_copied, beyond_limits, own_category, other_category}}
 use Rattle.number_format.proofs.read.affix_reader.AffixReader.own_exponent.Goals as goal
 
 pub returns-in_default : goal.returns-in_default
 returns-in_default g c =
-    let self = c.self.inside in
     let r = c.args.self.now in
-    let inside : Reader =
-    record { symbols = self.symbols; patterns = self.patterns.items; rules = self.rules; shift = self.shift } in
-    let view : inside ≡ r = cc in
-    let can : IsReader r = subst IsReader view c.self.invariant in
+    let can : IsReader r = subst IsReader c.self.view_is c.self.invariant in
     let long : g.D.DigitStore.L < size c.args.significand.absolute.number =
     elim (cases_lt g.D.DigitStore.L (size c.args.significand.absolute.number)) [
       | inl h ↦ h
@@ -24,12 +20,8 @@ returns-in_default g c =
 
 pub returns-in-Err : goal.returns-in-Err
 returns-in-Err g c =
-    let self = c.self.inside in
     let r = c.args.self.now in
-    let inside : Reader =
-    record { symbols = self.symbols; patterns = self.patterns.items; rules = self.rules; shift = self.shift } in
-    let view : inside ≡ r = cc in
-    let can : IsReader r = subst IsReader view c.self.invariant in
+    let can : IsReader r = subst IsReader c.self.view_is c.self.invariant in
     let fits : FitsSigned w32 c.args.exponent = search rules in
     let same : to_z w32 (of_z w32 c.args.exponent) ≡ c.args.exponent = omega (arith, ints, fits) in
     beyond_limits r c.args.form.now c.args.text.now g.D.DigitStore.L can.0 can.1 c.args.pattern.now c.args.middle.now
@@ -38,15 +30,11 @@ returns-in-Err g c =
 
 pub returns-in_default-split : goal.returns-in_default-split
 returns-in_default-split g c =
-    let self = c.self.inside in
     let r = c.args.self.now in
-    let inside : Reader =
-    record { symbols = self.symbols; patterns = self.patterns.items; rules = self.rules; shift = self.shift } in
-    let view : inside ≡ r = cc in
-    let can : IsReader r = subst IsReader view c.self.invariant in
+    let can : IsReader r = subst IsReader c.self.view_is c.self.invariant in
     let fits : FitsSigned w32 c.args.exponent = search rules in
     let same : to_z w32 (of_z w32 c.args.exponent) ≡ c.args.exponent = omega (arith, ints, fits) in
-    let symbols : self.symbols ≡ r.symbols = cc in
+    let symbols : c.self.inside.symbols ≡ r.symbols = cc in
     let patterns : c.as_slice.result.now ≡ r.patterns = cc in
     let absolute = ap (λ (d : Decimal). d.absolute) c.in-Ok.ensures.cases in
     let of_parts : IsCategoryAt r.rules (operands_with c.args.significand.absolute c.args.exponent)
@@ -60,15 +48,11 @@ returns-in_default-split g c =
 
 pub returns : goal.returns
 returns g c =
-    let self = c.self.inside in
     let r = c.args.self.now in
-    let inside : Reader =
-    record { symbols = self.symbols; patterns = self.patterns.items; rules = self.rules; shift = self.shift } in
-    let view : inside ≡ r = cc in
-    let can : IsReader r = subst IsReader view c.self.invariant in
+    let can : IsReader r = subst IsReader c.self.view_is c.self.invariant in
     let fits : FitsSigned w32 c.args.exponent = search rules in
     let same : to_z w32 (of_z w32 c.args.exponent) ≡ c.args.exponent = omega (arith, ints, fits) in
-    let symbols : self.symbols ≡ r.symbols = cc in
+    let symbols : c.self.inside.symbols ≡ r.symbols = cc in
     let patterns : c.as_slice.result.now ≡ r.patterns = cc in
     let absolute = ap (λ (d : Decimal). d.absolute) c.in-Ok.ensures.cases in
     let of_parts : IsCategoryAt r.rules (operands_with c.args.significand.absolute c.args.exponent)

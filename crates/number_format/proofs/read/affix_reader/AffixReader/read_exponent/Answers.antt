@@ -5,39 +5,28 @@ use Rattle.number_format.proofs.read.affix_reader.AffixReader.read_exponent.Goal
 
 pub read_parts-requires-clause-separator : goal.read_parts-requires-clause-separator
 read_parts-requires-clause-separator g c =
-    let self = c.self.inside in
-    let inside : Reader =
-    record { symbols = self.symbols; patterns = self.patterns.items; rules = self.rules; shift = self.shift } in
-    let view : inside ≡ c.args.self.now = cc in
-    subst (λ (x : Reader). IsSeparatorApart x.symbols c.args.form.now.separator.now) (sym view) c.requires.separator
+    subst (λ (x : Reader). IsSeparatorApart x.symbols c.args.form.now.separator.now) (sym c.self.view_is)
+    c.requires.separator
 
 pub returns-in-Err : goal.returns-in-Err
 returns-in-Err g c =
-    let self = c.self.inside in
     let r = c.args.self.now in
-    let inside : Reader =
-    record { symbols = self.symbols; patterns = self.patterns.items; rules = self.rules; shift = self.shift } in
-    let view : inside ≡ r = cc in
-    let is : IsReader r = subst IsReader view c.self.invariant in
+    let is : IsReader r = subst IsReader c.self.view_is c.self.invariant in
     let middle = c.args.middle.now in
     shown_between r c.args.form.now c.args.text.now g.D.DigitStore.L is.0 is.1 c.args.pattern.now middle
     c.requires.split (Err c.in-Err.fault) (Err c.in-Err.fault)
     (subst (λ (x : Reader). IsReadScientific g.D.DigitStore.L x.symbols c.args.form.now middle (Err c.in-Err.fault))
-    view c.in-Err.ensures.err) refl
+    c.self.view_is c.in-Err.ensures.err) refl
 
 pub returns-in-Ok-times_power : goal.returns-in-Ok-times_power
 returns-in-Ok-times_power g c =
-    let self = c.self.inside in
     let r = c.args.self.now in
-    let inside : Reader =
-    record { symbols = self.symbols; patterns = self.patterns.items; rules = self.rules; shift = self.shift } in
-    let view : inside ≡ r = cc in
-    let is : IsReader r = subst IsReader view c.self.invariant in
+    let is : IsReader r = subst IsReader c.self.view_is c.self.invariant in
     let parts = c.in-Ok.parts in
     let fits : FitsSigned w32 parts.1 = search rules in
     let same : to_z w32 (of_z w32 parts.1) ≡ parts.1 = omega (arith, ints, fits) in
-    let has_parts = subst (λ (x : Reader). HasParts x.symbols c.args.form.now c.args.middle.now parts.0 parts.1) view
-    c.in-Ok.ensures.ok in
+    let has_parts = subst (λ (x : Reader). HasParts x.symbols c.args.form.now c.args.middle.now parts.0 parts.1)
+    c.self.view_is c.in-Ok.ensures.ok in
     rw c.with_sign.ensures
     (of_any_category r c.args.form.now c.args.text.now g.D.DigitStore.L is.0 is.1 c.args.pattern.now
     c.args.middle.now c.requires.split c.requires.separator parts.0 parts.1 has_parts c.in-None.is
@@ -45,17 +34,13 @@ returns-in-Ok-times_power g c =
 
 pub returns-in-Err-times_power : goal.returns-in-Err-times_power
 returns-in-Err-times_power g c =
-    let self = c.self.inside in
     let r = c.args.self.now in
-    let inside : Reader =
-    record { symbols = self.symbols; patterns = self.patterns.items; rules = self.rules; shift = self.shift } in
-    let view : inside ≡ r = cc in
-    let is : IsReader r = subst IsReader view c.self.invariant in
+    let is : IsReader r = subst IsReader c.self.view_is c.self.invariant in
     let parts = c.in-Ok.parts in
     let fits : FitsSigned w32 parts.1 = search rules in
     let same : to_z w32 (of_z w32 parts.1) ≡ parts.1 = omega (arith, ints, fits) in
-    let has_parts = subst (λ (x : Reader). HasParts x.symbols c.args.form.now c.args.middle.now parts.0 parts.1) view
-    c.in-Ok.ensures.ok in
+    let has_parts = subst (λ (x : Reader). HasParts x.symbols c.args.form.now c.args.middle.now parts.0 parts.1)
+    c.self.view_is c.in-Ok.ensures.ok in
     beyond_limits r c.args.form.now c.args.text.now g.D.DigitStore.L is.0 is.1 c.args.pattern.now c.args.middle.now
     c.requires.split c.requires.separator parts.0 parts.1 has_parts c.in-Err-times_power.error
     (λ e h. c.in-Err-times_power.ensures e (cc (same, h)))
