@@ -14,7 +14,7 @@
 # - `range`: two texts are parsed, and written as a range. In ICU it is
 #   LocalizedNumberRangeFormatter::formatFormattableRange of the texts, in node Intl.NumberFormat's formatRange.
 # - `read`: NumberReader::read of the formatted text, in ICU unum_parseDecimal of it in UTF-16, by the style
-#   UNUM_CURRENCY or UNUM_PERCENT.
+#   UNUM_CURRENCY or UNUM_PERCENT. ICU does not read compact notation.
 #
 # What else a call needs is made before. Each figure is the least of nine batches of 20,000 calls. numbers/main.rt.txt,
 # numbers/icu.cpp and numbers/node.js are what is timed.

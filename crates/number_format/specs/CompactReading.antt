@@ -306,6 +306,15 @@ HasTextsOf f style p k =
 abbrev pub HasPowerOf : NumberFormatter → Unsigned → NumberPattern → Type 0
 HasPowerOf f v p = exponent_at f.notation (magnitude_by v p.exponent) ≡ p.exponent
 
+-- with the same sign and the same power of ten patterns have the same texts
+abbrev pub HasOneText : NumberPattern → NumberPattern → Type 0
+HasOneText p q = p.sign ≡ q.sign → p.exponent ≡ q.exponent → p.affixes ≡ q.affixes
+
+-- all patterns of a formatter have, and each key has the number
+pub record AreByPower (f : NumberFormatter) (style : CompactStyle) : Type 0 where
+  pub number : (k : CompactKey) → has_number_at f style k ≡ true
+  pub text : (k l : CompactKey) → HasOneText (word_pattern f style k) (word_pattern f style l)
+
 -- the key of the significand by that magnitude, with the sign of the pattern
 pub record IsKeyBy (f : NumberFormatter) (v : Unsigned) (p : NumberPattern) (k : CompactKey) : Type 0 where
   pub magnitude : k.magnitude ≡ magnitude_by v p.exponent

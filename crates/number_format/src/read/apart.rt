@@ -38,7 +38,7 @@ fn are_pair_apart(symbols: &DecimalSymbols<'_>, first: Affixes<'_>, second: Affi
         || are_suffixes_apart(symbols, first.suffix, second.suffix)
 }
 
-fn are_same(first: Affixes<'_>, second: Affixes<'_>) -> bool
+pub(crate) fn are_same(first: Affixes<'_>, second: Affixes<'_>) -> bool
     ensures { IsTrue result ↔ (affixes first.entry.prefix.now first.entry.suffix.now
         ≡ affixes second.entry.prefix.now second.entry.suffix.now) }
 {

@@ -1,10 +1,11 @@
 //! Reading of numbers in compact notation.
 ghost use Rattle.std.specs.Prelude.{◌≡◌, ◌↔◌, ◌≤ℤ◌, ◌-ℤ◌, pos, Ok, IsTrue, IfSome, IfNone, true, false};
 ghost use Rattle.decimal_format.specs.{Readable.IsReadable};
-ghost use Rattle.number_format.specs.{AffixedTexts.{AreNamed, shifted}, CompactReading.{word_pattern, magnitude_by, HasCompactExponents, HasTextsOf, HasOwnTexts, HasPowerOf, HidesSigns, IsKeyBy, IsOwnPattern, IsOwnOr, IsReadByNumber, IsReadShownInWords, IsReadInAnyWords, IsReadOrAny, IsReadInWords, AreWordPatterns}, Scaled.IsOrdered, TypedWords.IsTypedInWords};
+ghost use Rattle.number_format.specs.{AffixedTexts.{AreNamed, shifted}, CompactReading.{word_pattern, magnitude_by, HasCompactExponents, HasTextsOf, HasOwnTexts, HasPowerOf, HidesSigns, IsKeyBy, IsOwnPattern, IsOwnOr, IsPatternOf, IsReadByNumber, IsReadShownInWords, IsReadInAnyWords, IsReadOrAny, IsReadInWords, AreWordPatterns}, Scaled.IsOrdered, TypedWords.IsTypedInWords};
 
 mod apart;
 pub(crate) mod keys;
+mod powers;
 mod typed;
 pub(crate) mod whole;
 mod words;
@@ -15,6 +16,7 @@ use crate::notation::{CompactExponents, Notation};
 use crate::read::affix_reader::{AffixReader, shifted};
 use crate::read::apart::are_same_powers;
 use crate::read::compact::keys::{CompactKey, category_at};
+use crate::read::compact::powers::are_by_power;
 use crate::read::compact::whole::find_whole;
 use crate::read::pattern::NumberPattern;
 use decimal_format::internal::Alternative;
@@ -33,19 +35,22 @@ pub(crate) struct CompactReader {
     reader: AffixReader<'static>,
     /// The whole texts, as `mille`.
     wholes: Vec<NumberPattern>,
+    /// Whether the power of ten alone chooses the word, as in `en`, and there are no whole texts.
+    is_by_power: bool,
 }
 
 impl Model for CompactReader {
     ghost use Rattle.locale_data.specs.declared.compact.CompactStyle.{CompactStyle};
-    ghost use Rattle.std.specs.Prelude.{false};
-    ghost use Rattle.number_format.specs.{declared.format.formatter.NumberFormatter.NumberFormatter, CompactReading.{AreWordPatterns, IsWordReader}};
+    ghost use Rattle.std.specs.Prelude.{false, IsTrue};
+    ghost use Rattle.number_format.specs.{declared.format.formatter.NumberFormatter.NumberFormatter, CompactReading.{AreByPower, AreWordPatterns, IsWordReader}};
 
     ghost Value = { NumberFormatter × CompactStyle };
 
     ghost view = { λ s. (s.formatter, s.style) };
 
     ghost invariant = { λ s. IsWordReader s.formatter s.style s.reader
-        × AreWordPatterns s.formatter s.style false s.wholes.items };
+        × AreWordPatterns s.formatter s.style false s.wholes.items
+        × (IsTrue s.is_by_power → AreByPower s.formatter s.style) };
 }
 
 fn magnitude_by<D: DigitStore>(value: &Signed<UnsignedOver<D>>, exponent: i32) -> i16
@@ -116,6 +121,7 @@ impl CompactReader {
         requires shift { shift ≡ pos 0 -ℤ formatter.options.scale }
         ensures { result ≡ (formatter, style) }
     {
+        let is_by_power = wholes.is_empty() && are_by_power(patterns.as_slice());
         let symbols = formatter.style.symbols.copied();
         let reader = AffixReader::new(symbols, patterns, formatter.rules, shift);
         CompactReader {
@@ -123,6 +129,7 @@ impl CompactReader {
             style,
             reader,
             wholes,
+            is_by_power,
         }
     }
 
@@ -152,27 +159,37 @@ impl CompactReader {
         false
     }
 
+    fn has_power<D: DigitStore>(
+        &self,
+        pattern: &NumberPattern,
+        value: &Signed<UnsignedOver<D>>,
+    ) -> bool
+        requires exponent { (pos 0 ≤ℤ pattern.now.exponent) × (pattern.now.exponent ≤ℤ pos 255) }
+        ensures { IsTrue result ↔ HasPowerOf self.now.0 value.now.absolute pattern.now }
+    {
+        let magnitude = magnitude_by(value, pattern.exponent);
+        are_same_powers(
+            self.formatter.notation.exponent_at(magnitude),
+            pattern.exponent,
+        )
+    }
+
     fn key<D: DigitStore>(
         &self,
         pattern: &NumberPattern,
         value: &Signed<UnsignedOver<D>>,
-    ) -> Option<CompactKey>
+    ) -> CompactKey
         requires exponent { (pos 0 ≤ℤ pattern.now.exponent) × (pattern.now.exponent ≤ℤ pos 255) }
-        ensures some { IfSome result (IsKeyBy self.now.0 value.now.absolute pattern.now) }
-        ensures none { IfNone result (¬ HasPowerOf self.now.0 value.now.absolute pattern.now) }
+        requires power { HasPowerOf self.now.0 value.now.absolute pattern.now }
+        ensures { IsKeyBy self.now.0 value.now.absolute pattern.now result }
     {
-        let magnitude = magnitude_by(value, pattern.exponent);
-        let exponent = self.formatter.notation.exponent_at(magnitude);
-        if !are_same_powers(exponent, pattern.exponent) {
-            return None;
-        }
-        Some(CompactKey {
-            magnitude,
+        CompactKey {
+            magnitude: magnitude_by(value, pattern.exponent),
             category: self.reader.category(value),
             is_one: is_unit(value),
             whole: PluralCategory::Other,
             sign: pattern.sign,
-        })
+        }
     }
 
     fn has_own_texts(&self, pattern: &NumberPattern, key: CompactKey) -> bool
@@ -195,12 +212,16 @@ impl CompactReader {
     ) -> bool
         requires exponent { (pos 0 ≤ℤ pattern.now.exponent) × (pattern.now.exponent ≤ℤ pos 255) }
         requires sign { pattern.now.sign ≡ value.now.sign }
+        requires listed { IsPatternOf self.now.0 self.now.1 true pattern.now }
         ensures { IsTrue result ↔ IsOwnPattern self.now.0 self.now.1 value.now pattern.now }
     {
-        match self.key(pattern, value) {
-            Some(key) => self.has_own_texts(pattern, key),
-            None => false,
+        if !self.has_power(pattern, value) {
+            return false;
         }
+        if self.is_by_power {
+            return true;
+        }
+        self.has_own_texts(pattern, self.key(pattern, value))
     }
 
     fn own<D: DigitStore>(
@@ -210,6 +231,7 @@ impl CompactReader {
     ) -> Result<Signed<UnsignedOver<D>>, ParseError>
         requires exponent { (pos 0 ≤ℤ pattern.now.exponent) × (pattern.now.exponent ≤ℤ pos 255) }
         requires sign { pattern.now.sign ≡ value.sign }
+        requires listed { IsPatternOf self.now.0 self.now.1 true pattern.now }
         ensures { IsOwnOr self.now.0 self.now.1 pattern.now value result }
     {
         if self.is_own(pattern, &value) {

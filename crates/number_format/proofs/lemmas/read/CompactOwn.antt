@@ -1,32 +1,19 @@
 -- Whether a significand is written with the texts of a pattern.
-use Rattle.std.proofs.{Common.{◌≡◌, ◌≢◌, ℕ, Bool, false, List, ◌++◌, inl, inr, refl, sym, ◌∙◌, ap, subst, w16, w32, to_z, of_z, FitsSigned}, lemmas.Int.to_z-of_z}
-use Rattle.std.specs.{Prelude.{◌↔◌, IsTrue, Result, Ok, Err, ℤ, pos, ◌≤ℤ◌}, List.Contains}
-use Rattle.decimal_unsigned.specs.{Unsigned.{Unsigned, one_value}, declared.error.ParseError.ParseError}
+use Rattle.std.proofs.{Common.{◌≡◌, ◌≢◌, ℕ, Bool, true, false, List, ◌++◌, length, inl, inr, refl, sym, ◌∙◌, ap, subst, w16, to_z, of_z, FitsSigned, arith}, lemmas.{Bool.cases_Bool, Int.to_z-of_z, List.Elements.All-contains}}
+use Rattle.std.specs.{Prelude.{◌↔◌, IsTrue, All, Result, Ok, Err, ℤ, pos, ◌≤ℤ◌}, List.Contains}
+use Rattle.decimal_unsigned.specs.{Unsigned.{one_value}, declared.error.ParseError.ParseError}
 use Rattle.fixed_decimal.specs.{Decimal.Decimal}
 use Rattle.plural_rules.specs.{Operands.plain, declared.rules.PluralCategory.PluralCategory}
 use Rattle.locale_data.specs.{declared.compact.CompactStyle.CompactStyle}
 use Rattle.decimal_format.specs.{Formatted.absolute_text, Reading.IsRead, Symbols.Affixes}
-use Rattle.number_format.specs.{declared.{format.formatter.NumberFormatter.NumberFormatter, read.{compact.keys.CompactKey.CompactKey, pattern.NumberPattern.NumberPattern}}, AffixedTexts.{Reader, shifted, IsNumeral, IsWritten, IsWrittenBy}, CompactReading.{category_at, has_number_at, whole_text, word_pattern, word_reader, AreWordPatterns, ChoosesOne, HasCompactExponents, IsReadShownInWords, magnitude_by, HasOwnTexts, HasPowerOf, HasTextsOf, IsKeyBy, IsOwnOr, IsOwnPattern, IsReadByNumber, IsShownInWords, IsReadInAnyWords, IsWordReader}, Scaled.exponent_at}
+use Rattle.locale_data.proofs.lemmas.tables.RulesTexts.{category_exists}
+use Rattle.number_format.specs.{declared.{format.formatter.NumberFormatter.NumberFormatter, read.{compact.keys.CompactKey.CompactKey, pattern.NumberPattern.NumberPattern}}, AffixedTexts.{Reader, shifted, IsNumeral, IsWritten, IsWrittenBy}, CompactReading.{category_at, has_number_at, whole_text, word_pattern, word_reader, AreByPower, AreWordPatterns, ChoosesOne, HasCompactExponents, IsReadShownInWords, is_unit, magnitude_by, HasOneText, HasOwnTexts, HasPowerOf, HasTextsOf, IsKeyBy, IsOwnOr, IsOwnPattern, IsPatternOf, IsReadByNumber, IsShownInWords, IsReadInAnyWords, IsWordReader}, Scaled.exponent_at}
 use Rattle.number_format.proofs.lemmas.{range.RangeEnds.category_unique, read.{AffixedNumbers.two_texts, CompactKeys.{code, coded}, CompactPatterns.AllBelow, CompactTexts.small_exponent}}
-
--- powers of ten are compared as 32-bit integers
-pub same_powers : (b : Bool) (m n : ℤ) → FitsSigned w32 m → FitsSigned w32 n
-    → IsTrue b ↔ (to_z w32 (of_z w32 m) ≡ to_z w32 (of_z w32 n)) → IsTrue b ↔ (m ≡ n)
-same_powers b m n fits other test =
-    subst (λ (k : ℤ). IsTrue b ↔ (k ≡ n)) (to_z-of_z w32 m fits)
-    (subst (λ (k : ℤ). IsTrue b ↔ (to_z w32 (of_z w32 m) ≡ k)) (to_z-of_z w32 n other) test)
 
 -- the magnitude of a key is kept as a 16-bit integer
 pub narrow_key : (P : CompactKey → Type 0) (k : CompactKey) → FitsSigned w16 k.magnitude
     → P (record k { magnitude = to_z w16 (of_z w16 k.magnitude) }) → P k
 narrow_key P k fits x = subst (λ (z : ℤ). P (record k { magnitude = z })) (to_z-of_z w16 k.magnitude fits) x
-
--- the magnitude has another power of ten
-pub no_power : (f : NumberFormatter) (v : Unsigned) (p : NumberPattern) (m : ℤ) (r : Bool)
-    → m ≡ magnitude_by v p.exponent → IsTrue r ↔ (exponent_at f.notation m ≡ p.exponent) → r ≡ false
-    → ¬ HasPowerOf f v p
-no_power f v p m r magnitude same fails has =
-    let t = same.1 (ap (exponent_at f.notation) magnitude ∙ has) in absurd (cc (t, fails))
 
 module _ (f : NumberFormatter) (style : CompactStyle) (v : Decimal) (p : NumberPattern) (sign : p.sign ≡ v.sign)
   where
@@ -37,6 +24,36 @@ module _ (f : NumberFormatter) (style : CompactStyle) (v : Decimal) (p : NumberP
 
     pub not_own : ¬ HasPowerOf f v.absolute p → IsTrue false ↔ IsOwnPattern f style v p
     not_own none = (λ t. absurd (cc), λ own. absurd (none (own_power own)))
+
+    -- with this power of ten it has the texts of the key, if the power alone chooses them
+    pub own_power_is : AreByPower f style → IsPatternOf f style true p → HasPowerOf f v.absolute p
+        → IsOwnPattern f style v p
+    own_power_is by listed has =
+        let category = category_exists f.rules (plain v.absolute) f.rules_listed in
+        let k : CompactKey = record {
+          magnitude = magnitude_by v.absolute p.exponent;
+          category = category.0;
+          is_one = is_unit v.absolute;
+          whole = PluralCategory.Other;
+          sign = p.sign;
+        } in
+        record {
+          key = k;
+          own = record {
+            magnitude = ap (magnitude_by v.absolute) (sym has);
+            category = category.1;
+            one = inl refl;
+            sign = sign;
+          };
+          has = by.number k;
+          is = (
+            ap (λ (q : NumberPattern). q.affixes) listed.is
+                ∙ by.text listed.key k (sym (ap (λ (q : NumberPattern). q.sign) listed.is))
+                (sym (ap (λ (q : NumberPattern). q.exponent) listed.is) ∙ sym has),
+            refl,
+            sym has,
+          );
+        }
 
     module _ (k : CompactKey) (by : IsKeyBy f v.absolute p k) where
       abbrev with_one : Bool → CompactKey
@@ -103,6 +120,23 @@ module _ (f : NumberFormatter) (style : CompactStyle) (p : NumberPattern) (k : C
         let c = coded has.1.0 in
         absurd (lacks (code has.1.0) c.0 (subst HasTexts (sym c.1) has.1.1)),
   )
+
+-- patterns that are compared with each other are all that there are
+pub by_power : (f : NumberFormatter) (style : CompactStyle) (patterns wholes : List NumberPattern)
+    → AreWordPatterns f style true patterns → AreWordPatterns f style false wholes → length wholes ≡ 0
+    → All (λ p. All (HasOneText p) patterns) patterns → AreByPower f style
+by_power f style patterns wholes are others none all =
+    let number : (k : CompactKey) → has_number_at f style k ≡ true = λ k.
+    elim (cases_Bool (has_number_at f style k)) [
+      | inl has ↦ has
+      | inr lacks ↦ absurd (omega (arith, (others.all k lacks).1, none))
+    ] in
+    record {
+      number = number;
+      text = λ k l. All-contains (HasOneText (word_pattern f style k)) patterns (word_pattern f style l)
+          (All-contains (λ p. All (HasOneText p) patterns) patterns (word_pattern f style k) all
+          (are.all k (number k))) (are.all l (number l));
+    }
 
 -- ---- What is read.
 

@@ -1,6 +1,6 @@
-use Rattle.std.proofs.{Common.{Err, sym, arith, subst}, lemmas.Int.ints}
+use Rattle.std.proofs.{Common.{Err, true, sym, arith, subst}, lemmas.Int.ints}
 use Rattle.locale_data.specs.declared.compact.CompactStyle.{CompactStyle}
-use Rattle.number_format.specs.{declared.format.formatter.NumberFormatter.NumberFormatter, CompactReading.{IsOwnOr, IsReadByNumber}}
+use Rattle.number_format.specs.{declared.format.formatter.NumberFormatter.NumberFormatter, CompactReading.{IsOwnOr, IsPatternOf, IsReadByNumber}}
 use Rattle.number_format.proofs.lemmas.read.CompactOwn.{pattern_exponent, read_error, read_value}
 use Rattle.number_format.proofs.read.compact.CompactReader.read_number.Goals as goal
 
@@ -12,6 +12,12 @@ own-requires-clause-exponent g c =
 
 pub own-requires-clause-sign : goal.own-requires-clause-sign
 own-requires-clause-sign g c = c.in-Ok.ensures.ok.0.sign
+
+pub own-requires-clause-listed : goal.own-requires-clause-listed
+own-requires-clause-listed g c =
+    let p = c.in-Ok.pattern.now in
+    subst (λ (w : NumberFormatter × CompactStyle). IsPatternOf w.0 w.1 true p) c.self.view_is
+    (c.self.invariant.0.patterns.only p c.in-Ok.ensures.ok.0.listed)
 
 pub returns-in-Ok : goal.returns-in-Ok
 returns-in-Ok g c =
