@@ -201,7 +201,11 @@ impl TypedText<'_> {
         requires { index < 216 }
         ensures { result.now ≡ word_before_of self.now.formatter.now self.now.style index }
     {
-        let pattern = self.formatter.word(self.style, key_at(18 * index));
+        let key = key_at(18 * index);
+        if !self.formatter.has_number_in(self.style, key) {
+            return "";
+        }
+        let pattern = self.formatter.word(self.style, key);
         match (&self.formatter.outer, pattern) {
             (OuterTexts::None, Some(pattern)) if has_no_word(&pattern.suffix) => {
                 last_text(&pattern.prefix)
