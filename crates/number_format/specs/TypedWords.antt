@@ -4,7 +4,7 @@ use Rattle.decimal_unsigned.specs.declared.error.ParseError.{ParseError, TheVari
 use Rattle.fixed_decimal.specs.Decimal.{Decimal}
 use Rattle.decimal_format.specs.declared.reader.alternatives.Alternative.{Alternative}
 use Rattle.locale_data.specs.{Compact.{pattern_for, compact_patterns, text_of}, declared.{compact.CompactStyle.CompactStyle, tables.rows.compact.{AffixText.AffixText, CompactPattern.CompactPattern}}}
-use Rattle.number_format.specs.{declared.{format.{formatter.NumberFormatter.NumberFormatter, outer.OuterTexts.OuterTexts}, read.compact.{keys.CompactKey.CompactKey, typed.TypedText.TypedText}}, AffixedTexts.{Reader, IsShifted, IsOrElse, IsReadWith}, CompactReading.{has_number_at, key_at, is_single, IsReadOrAny}, NumberText.is_empty, Scaled.exponent_at, TrimmedTexts.is_trimmed}
+use Rattle.number_format.specs.{declared.{format.{formatter.NumberFormatter.NumberFormatter, outer.OuterTexts.OuterTexts}, read.compact.{keys.CompactKey.CompactKey, typed.TypedText.TypedText}}, AffixedTexts.{Reader, IsShifted, IsOrElse, IsReadWith}, CompactReading.{key_at, is_single, IsReadOrAny}, NumberText.{has_number, is_empty}, Scaled.exponent_at, TrimmedTexts.is_trimmed}
 
 -- ---- Words.
 
@@ -81,9 +81,13 @@ abbrev pub text_after : OuterTexts → Option CompactPattern → List ℕ
 text_after OuterTexts.None (Some p) = if has_no_word p.prefix then text_of p.suffix.before else []
 text_after texts pattern = []
 
--- the text before a number, if it has no word after it, as `elfu` in Swahili; `mille` without a number is no such word
+-- a number is in the pattern, which `mille` has not, and no word is after it
+abbrev pub has_no_word_after : CompactPattern → Bool
+has_no_word_after p = has_number p.form && has_no_word p.suffix
+
+-- the text before such a number, as `elfu` in Swahili
 abbrev pub text_before : OuterTexts → Option CompactPattern → List ℕ
-text_before OuterTexts.None (Some p) = if has_no_word p.suffix then last_text p.prefix else []
+text_before OuterTexts.None (Some p) = if has_no_word_after p then last_text p.prefix else []
 text_before texts pattern = []
 
 -- the pattern of these keys
@@ -95,8 +99,7 @@ abbrev pub word_of : NumberFormatter → CompactStyle → ℕ → List ℕ
 word_of f style i = text_after f.outer (word_pattern_of f style i)
 
 abbrev pub word_before_of : NumberFormatter → CompactStyle → ℕ → List ℕ
-word_before_of f style i =
-    if has_number_at f style (word_key i) then text_before f.outer (word_pattern_of f style i) else []
+word_before_of f style i = text_before f.outer (word_pattern_of f style i)
 
 abbrev pub power_of : NumberFormatter → ℕ → ℤ
 power_of f i = exponent_at f.notation (word_key i).magnitude

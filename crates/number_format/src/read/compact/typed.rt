@@ -2,7 +2,7 @@
 ghost use Rattle.std.specs.{Prelude.{◌≡◌, ◌≢◌, ℕ, [], ◌∷◌, ◌++◌, ◌↔◌, ◌<◌, ◌≤◌, ◌≤ℤ◌, pos, Err, List, length, take, MatchOption, IsTrue, true}, Bool.{OnTrue, OnFalse}, Str.{chars, IsUtf8}};
 ghost use Rattle.decimal_unsigned.specs.declared.error.ParseError.{TheVariants.Syntax};
 ghost use Rattle.locale_data.specs.Compact.{has_texts};
-ghost use Rattle.number_format.specs.TypedWords.{is_kept, lowered, folded, IsCut, IsSkipped, IsKeptFirst, FollowsWord, IsAfterWord, IsWithoutWord, IsNoneLeft, is_no_word, has_no_word, last_text, word_of, word_before_of, power_of, IsReadLeft, IsReadAfter, IsReadWithout, IsMeaning, Fits, HasOther, HasNoOther, IsOneMeaning, IsReadByWord, typing};
+ghost use Rattle.number_format.specs.TypedWords.{is_kept, lowered, folded, IsCut, IsSkipped, IsKeptFirst, FollowsWord, IsAfterWord, IsWithoutWord, IsNoneLeft, is_no_word, has_no_word, has_no_word_after, last_text, word_of, word_before_of, power_of, IsReadLeft, IsReadAfter, IsReadWithout, IsMeaning, Fits, HasOther, HasNoOther, IsOneMeaning, IsReadByWord, typing};
 
 use crate::format::formatter::NumberFormatter;
 use crate::format::outer::OuterTexts;
@@ -13,7 +13,7 @@ use crate::read::compact::keys::key_at;
 use arrayvec::ArrayString;
 use decimal_format::internal::Alternative;
 use fixed_decimal::{DigitStore, ParseError, Signed, UnsignedOver};
-use locale_data::{AffixText, CompactStyle};
+use locale_data::{AffixText, CompactForm, CompactPattern, CompactStyle};
 use std::alloc::Global;
 
 fn is_kept(c: char) -> bool
@@ -150,6 +150,13 @@ fn has_no_word(affix: &AffixText) -> bool
     is_no_word(affix.before_text()) && is_no_word(affix.after_text())
 }
 
+fn has_no_word_after(pattern: &CompactPattern) -> bool
+    requires { has_texts pattern.now.suffix ≡ true }
+    ensures { result ≡ has_no_word_after pattern.now }
+{
+    !matches!(pattern.form, CompactForm::Literal) && has_no_word(&pattern.suffix)
+}
+
 fn last_text(affix: &AffixText) -> &'static str
     requires { has_texts affix.now ≡ true }
     ensures { result.now ≡ last_text affix.now }
@@ -201,13 +208,9 @@ impl TypedText<'_> {
         requires { index < 216 }
         ensures { result.now ≡ word_before_of self.now.formatter.now self.now.style index }
     {
-        let key = key_at(18 * index);
-        if !self.formatter.has_number_in(self.style, key) {
-            return "";
-        }
-        let pattern = self.formatter.word(self.style, key);
+        let pattern = self.formatter.word(self.style, key_at(18 * index));
         match (&self.formatter.outer, pattern) {
-            (OuterTexts::None, Some(pattern)) if has_no_word(&pattern.suffix) => {
+            (OuterTexts::None, Some(pattern)) if has_no_word_after(pattern) => {
                 last_text(&pattern.prefix)
             }
             _ => "",
@@ -337,8 +340,8 @@ impl NumberFormatter {
     ///
     /// In the word white space, marks, periods and the case of letters do not matter. A text with two meanings, by
     /// words of different powers of ten, is `Syntax`. So is one whose word belongs to a pattern with another word on
-    /// the other side of the number. Beside a unit or the name of a currency no word is typed: `5m`
-    /// may be 5 meters, or 5 million.
+    /// the other side of the number. Beside a unit or the name of a currency no word is typed: `5m` may be 5 meters, or
+    /// 5 million.
     pub(crate) fn read_typed_word<D: DigitStore>(
         &self,
         style: CompactStyle,
