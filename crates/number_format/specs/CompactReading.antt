@@ -1,12 +1,12 @@
 -- Numbers in compact notation: the texts around them, and which are read.
-use Rattle.std.specs.{Prelude.{◌≡◌, ℕ, zero, suc, ◌<◌, ◌/◌, ◌%◌, ◌+◌, ◌==◌, Bool, true, false, not, ◌&&◌, if◌then◌else◌, ◌⊎◌, List, ◌++◌, Option, None, Some, is_none, Result, Ok, Err, ℤ, pos, ◌+ℤ◌, ◌-ℤ◌}, Int.int_min, List.Contains}
+use Rattle.std.specs.{Prelude.{◌≡◌, ◌≢◌, ℕ, zero, suc, ◌<◌, ◌/◌, ◌%◌, ◌+◌, ◌==◌, Bool, true, false, not, ◌&&◌, if◌then◌else◌, ◌⊎◌, List, ◌++◌, Option, None, Some, is_none, IsSomeAnd, Result, Ok, Err, ℤ, pos, ◌+ℤ◌, ◌-ℤ◌}, Int.int_min, List.Contains}
 use Rattle.decimal_digits.specs.Number.{first}
 use Rattle.decimal_unsigned.specs.{Unsigned.{Unsigned, one_value}, declared.error.ParseError.{ParseError, TheVariants.Syntax}}
 use Rattle.fixed_decimal.specs.{Decimal.Decimal, declared.variations.{Sign.Sign, SignDisplay.SignDisplay}}
 use Rattle.plural_rules.specs.Operands as operands
 use Rattle.plural_rules.specs.declared.rules.PluralCategory.{PluralCategory}
 use Rattle.decimal_format.specs.{Formatted.absolute_text, Readable.{BeginsWithDigit, IsReadable}, Reading.IsRead, Symbols.{Symbols, affixes}, declared.grouping.GroupingStrategy.GroupingStrategy}
-use Rattle.locale_data.specs.{Compact.{pattern_for, compact_patterns}, Plurals.{IsCategoryAt, HasOneAlone}, declared.{compact.CompactStyle.CompactStyle, tables.rows.compact.CompactPattern.CompactPattern}}
+use Rattle.locale_data.specs.{Compact.{pattern_for, compact_patterns}, Plurals.{IsCategoryAt, HasOneAlone, HoldsAlone}, declared.{compact.CompactStyle.CompactStyle, tables.rows.compact.CompactPattern.CompactPattern}}
 use Rattle.number_format.specs.{declared.{format.formatter.NumberFormatter.NumberFormatter, notation.Notation.Notation, read.{compact.keys.CompactKey.CompactKey, pattern.NumberPattern.NumberPattern}}, AffixedTexts.{AreNamed, AreSame, AreToldApart, Reader, between, shifted, IsWritten, IsWrittenBy, IsNumeral, IsShifted, IsOrElse}, NumberText.{around_by, is_negative, outer_by}, PatternTexts.Around, Scaled.{exponent_at, IsOrdered}, TextParts.pieces_text}
 
 -- ---- The texts around numbers.
@@ -122,11 +122,29 @@ HidesSigns f = f.options.sign_display ≡ SignDisplay.Never
 abbrev pub ChoosesOne : NumberFormatter → Decimal → Bool → Type 0
 ChoosesOne f v one = (one ≡ is_unit v.absolute) ⊎ ((one ≡ false) × HidesSigns f)
 
+-- the number that a category may hold alone: 1 of `one` and 2 of `two`
+abbrev pub lone_number : PluralCategory → Option ℕ
+lone_number PluralCategory.One = Some 1
+lone_number PluralCategory.Two = Some 2
+lone_number c = None
+
+-- the category is that of 1 alone, or of 2 alone
+abbrev pub IsAlone : NumberFormatter → PluralCategory → Type 0
+IsAlone f c = IsSomeAnd (lone_number c) (HoldsAlone f.rules c)
+
+-- the whole number has the category of the significand if it is not divided; else it is at least 10, and may have each
+-- category but those of 1 alone and of 2 alone
+abbrev pub HasWholeCategory : NumberFormatter → CompactKey → Type 0
+HasWholeCategory f k =
+    ((exponent_at f.notation k.magnitude ≡ pos 0) × (k.whole ≡ k.category))
+    ⊎ ((exponent_at f.notation k.magnitude ≢ pos 0) × ¬ IsAlone f k.whole)
+
 -- the key is one of a significand: its magnitude is that of the number with the power of ten of its pattern, and its
 -- category that of the significand
 pub record IsOwnKey (f : NumberFormatter) (v : Decimal) (k : CompactKey) : Type 0 where
   pub magnitude : k.magnitude ≡ magnitude_by v.absolute (exponent_at f.notation k.magnitude)
   pub category : IsCategoryAt f.rules (operands.plain v.absolute) k.category
+  pub whole : HasWholeCategory f k
   pub one : ChoosesOne f v k.is_one
   pub sign : k.sign ≡ v.sign
 
@@ -296,11 +314,15 @@ abbrev pub IsIndexApart : NumberFormatter → CompactStyle → ℕ → Type 0
 IsIndexApart f style i =
     (j : ℕ) → j < 3888 → AreKeysApart f style (key_at i) (key_at j)
 
--- the pattern has the texts around the number of the key, whichever category the whole number has
+-- the pattern has the texts of the key, which the whole number may have
+abbrev pub HasTextsAt : NumberFormatter → CompactStyle → NumberPattern → CompactKey → Type 0
+HasTextsAt f style p k = HasWholeCategory f k × (p.affixes ≡ (word_pattern f style k).affixes)
+
+-- the pattern has the texts around the number of the key, with one of the categories that the whole number may have
 abbrev pub HasTextsOf : NumberFormatter → CompactStyle → NumberPattern → CompactKey → Type 0
 HasTextsOf f style p k =
     (has_number_at f style k ≡ true)
-    × ((whole : PluralCategory) × (p.affixes ≡ (word_pattern f style (record k { whole = whole })).affixes))
+    × ((whole : PluralCategory) × HasTextsAt f style p (record k { whole = whole }))
 
 -- the magnitude of a significand times the power of ten of the pattern has this power of ten
 abbrev pub HasPowerOf : NumberFormatter → Unsigned → NumberPattern → Type 0

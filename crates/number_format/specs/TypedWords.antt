@@ -1,5 +1,5 @@
 -- Words of compact notation as people type them.
-use Rattle.std.specs.{Prelude.{◌≡◌, ◌≢◌, ℕ, zero, suc, ◌*◌, ◌<◌, ◌⊎◌, ◌==◌, Bool, true, not, ◌&&◌, ◌||◌, if◌then◌else◌, List, [], ◌∷◌, ◌++◌, map, filter, length, Option, Some, unwrap_or, slice_get, Result, Err, ℤ}, Str.{NonePass, chars, encode_utf8_all}, Char.Unicode.{Numeric.is_numeric, ToLowercase.to_lowercase}}
+use Rattle.std.specs.{Prelude.{◌≡◌, ◌≢◌, ℕ, zero, suc, ◌*◌, ◌<◌, ◌⊎◌, ◌==◌, Bool, true, not, ◌&&◌, ◌||◌, if◌then◌else◌, List, [], ◌∷◌, ◌++◌, map, filter, length, Option, None, Some, unwrap_or, slice_get, Result, Err, ℤ}, Str.{NonePass, chars, encode_utf8_all}, Char.Unicode.{Numeric.is_numeric, ToLowercase.to_lowercase}}
 use Rattle.decimal_unsigned.specs.declared.error.ParseError.{ParseError, TheVariants.Syntax}
 use Rattle.fixed_decimal.specs.Decimal.{Decimal}
 use Rattle.decimal_format.specs.declared.reader.alternatives.Alternative.{Alternative}
@@ -75,31 +75,36 @@ has_no_word affix = is_no_word (text_of affix.before) && is_no_word (text_of aff
 abbrev pub last_text : AffixText → List ℕ
 last_text affix = text_of (if affix.has_currency then affix.after else affix.before)
 
--- the text after a number, up to a currency, if it has no word before it; beside a unit or a name none, since `5m` may
--- be meters or millions
-abbrev pub text_after : OuterTexts → Option CompactPattern → List ℕ
-text_after OuterTexts.None (Some p) = if has_no_word p.prefix then text_of p.suffix.before else []
-text_after texts pattern = []
+-- the text after a number, up to a currency, if it has no word before it
+abbrev pub text_after : Option CompactPattern → List ℕ
+text_after None = []
+text_after (Some p) = if has_no_word p.prefix then text_of p.suffix.before else []
 
 -- a number is in the pattern, which `mille` has not, and no word is after it
 abbrev pub has_no_word_after : CompactPattern → Bool
 has_no_word_after p = has_number p.form && has_no_word p.suffix
 
 -- the text before such a number, as `elfu` in Swahili
-abbrev pub text_before : OuterTexts → Option CompactPattern → List ℕ
-text_before OuterTexts.None (Some p) = if has_no_word_after p then last_text p.prefix else []
-text_before texts pattern = []
+abbrev pub text_before : Option CompactPattern → List ℕ
+text_before None = []
+text_before (Some p) = if has_no_word_after p then last_text p.prefix else []
+
+-- beside a unit or a name no word is typed, since `5m` may be meters or millions
+abbrev pub alone_by : OuterTexts → Option CompactPattern → Option CompactPattern
+alone_by OuterTexts.None pattern = pattern
+alone_by texts pattern = None
 
 -- the pattern of these keys
-abbrev pub word_pattern_of : NumberFormatter → CompactStyle → ℕ → Option CompactPattern
-word_pattern_of f style i =
-    pattern_for (word_key i).category (is_single (word_key i)) (compact_patterns f.formats style (word_key i).magnitude)
+abbrev pub typed_pattern : NumberFormatter → CompactStyle → ℕ → Option CompactPattern
+typed_pattern f style i =
+    alone_by f.outer (pattern_for (word_key i).category (is_single (word_key i))
+    (compact_patterns f.formats style (word_key i).magnitude))
 
 abbrev pub word_of : NumberFormatter → CompactStyle → ℕ → List ℕ
-word_of f style i = text_after f.outer (word_pattern_of f style i)
+word_of f style i = text_after (typed_pattern f style i)
 
 abbrev pub word_before_of : NumberFormatter → CompactStyle → ℕ → List ℕ
-word_before_of f style i = text_before f.outer (word_pattern_of f style i)
+word_before_of f style i = text_before (typed_pattern f style i)
 
 abbrev pub power_of : NumberFormatter → ℕ → ℤ
 power_of f i = exponent_at f.notation (word_key i).magnitude

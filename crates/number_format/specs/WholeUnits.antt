@@ -1,12 +1,11 @@
 -- Texts of units without a number, and the numbers that they say: in Somali `Fuudh` is one foot.
-use Rattle.std.specs.{Prelude.{◌≡◌, ℕ, ◌==◌, Bool, true, false, ◌&&◌, ◌⊎◌, IsSomeAnd, List, [], ◌++◌, Option, None, Some, Result, Ok, ℤ}}
+use Rattle.std.specs.{Prelude.{◌≡◌, ℕ, ◌==◌, Bool, true, false, ◌&&◌, ◌⊎◌, List, [], ◌++◌, Some, Result, Ok, ℤ}}
 use Rattle.decimal_unsigned.specs.{Unsigned.{Unsigned, integer_value}, declared.error.ParseError.{ParseError}}
 use Rattle.fixed_decimal.specs.{Decimal.Decimal, declared.variations.{Sign.Sign, SignDisplay.SignDisplay}}
 use Rattle.plural_rules.specs.Operands as operands
 use Rattle.plural_rules.specs.declared.rules.PluralCategory.{PluralCategory}
 use Rattle.locale_names.specs.LocaleUnits.{around_number}
-use Rattle.locale_data.specs.Plurals.{HoldsAlone}
-use Rattle.number_format.specs.{declared.{format.{outer.OuterTexts.OuterTexts, formatter.NumberFormatter.NumberFormatter, text_part.PartKind.PartKind}, options.{NumberNotation.NumberNotation}}, AffixedTexts.shifted, CompactReading.HasNoDigit, NumberText.{around_texts, outer_by}, PatternTexts.{Around, around}, TextParts.pieces_text}
+use Rattle.number_format.specs.{declared.{format.{outer.OuterTexts.OuterTexts, formatter.NumberFormatter.NumberFormatter, text_part.PartKind.PartKind}, options.{NumberNotation.NumberNotation}}, AffixedTexts.shifted, CompactReading.{lone_number, HasNoDigit, IsAlone}, NumberText.{around_texts, outer_by}, PatternTexts.{Around, around}, TextParts.pieces_text}
 
 -- ---- The texts.
 
@@ -23,12 +22,6 @@ unit_text texts c = pieces_text (unit_around texts c).prefix ++ pieces_text (uni
 pub record IsUnitText (texts : OuterTexts) (text : List ℕ) (c : PluralCategory) : Type 0 where
   pub none : (unit_around texts c).has_number ≡ false
   pub is : text ≡ unit_text texts c
-
--- the number that the text of a category may say: 1 of `one` and 2 of `two`
-abbrev pub lone_number : PluralCategory → Option ℕ
-lone_number PluralCategory.One = Some 1
-lone_number PluralCategory.Two = Some 2
-lone_number c = None
 
 -- the text has no number, and says this one by its category
 pub record SaysNumber (texts : OuterTexts) (text : List ℕ) (n : ℕ) : Type 0 where
@@ -52,7 +45,7 @@ AreUnitsApart texts =
 pub record IsUnitRead (f : NumberFormatter) (c : PluralCategory) : Type 0 where
   pub standard : f.options.notation ≡ NumberNotation.Standard
   pub unsigned : f.options.sign_display ≡ SignDisplay.Never
-  pub alone : IsSomeAnd (lone_number c) (HoldsAlone f.rules c)
+  pub alone : IsAlone f c
   pub no_digit : HasNoDigit f.style.symbols (unit_text f.outer c)
   pub apart : AreUnitsApart f.outer
 

@@ -20,6 +20,7 @@ pub mod FormattedExponents
 pub mod PatternLists
 pub mod CompactKeys
 pub mod CompactPatterns
+pub mod WholeCategories
 pub mod CompactTexts
 pub mod CompactOwn
 pub mod CompactOrder

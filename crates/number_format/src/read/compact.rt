@@ -1,7 +1,7 @@
 //! Reading of numbers in compact notation.
 ghost use Rattle.std.specs.Prelude.{◌≡◌, ◌↔◌, ◌≤ℤ◌, ◌-ℤ◌, pos, Ok, IsTrue, IfSome, IfNone, true, false};
 ghost use Rattle.decimal_format.specs.{Readable.IsReadable};
-ghost use Rattle.number_format.specs.{AffixedTexts.{AreNamed, shifted}, CompactReading.{word_pattern, magnitude_by, HasCompactExponents, HasTextsOf, HasOwnTexts, HasPowerOf, HidesSigns, IsKeyBy, IsOwnPattern, IsOwnOr, IsPatternOf, IsReadByNumber, IsReadShownInWords, IsReadInAnyWords, IsReadOrAny, IsReadInWords, AreWordPatterns}, Scaled.IsOrdered, TypedWords.IsTypedInWords};
+ghost use Rattle.number_format.specs.{AffixedTexts.{AreNamed, shifted}, CompactReading.{word_pattern, magnitude_by, HasCompactExponents, HasTextsAt, HasTextsOf, HasOwnTexts, HasPowerOf, HasWholeCategory, HidesSigns, IsKeyBy, IsOwnPattern, IsOwnOr, IsPatternOf, IsReadByNumber, IsReadShownInWords, IsReadInAnyWords, IsReadOrAny, IsReadInWords, AreWordPatterns}, Scaled.IsOrdered, TypedWords.IsTypedInWords};
 
 mod apart;
 pub(crate) mod keys;
@@ -141,6 +141,21 @@ impl CompactReader {
         pattern.affixes.is_around(&outer, &inner)
     }
 
+    fn has_whole_category(&self, key: CompactKey) -> bool
+        ensures { IsTrue result ↔ HasWholeCategory self.now.0 key }
+    {
+        if self.formatter.notation.exponent_at(key.magnitude) == 0 {
+            return key.whole == key.category;
+        }
+        !self.formatter.holds_lone_number(key.whole)
+    }
+
+    fn has_texts_at(&self, pattern: &NumberPattern, key: CompactKey) -> bool
+        ensures { IsTrue result ↔ HasTextsAt self.now.0 self.now.1 pattern.now key }
+    {
+        self.has_texts(pattern, key) && self.has_whole_category(key)
+    }
+
     fn has_texts_of(&self, pattern: &NumberPattern, key: CompactKey) -> bool
         ensures { IsTrue result ↔ HasTextsOf self.now.0 self.now.1 pattern.now key }
     {
@@ -152,7 +167,7 @@ impl CompactReader {
                 whole: category_at(index),
                 ..key
             };
-            if self.has_texts(pattern, own) {
+            if self.has_texts_at(pattern, own) {
                 return true;
             }
         }
@@ -301,6 +316,7 @@ impl CompactReader {
     ///
     /// The texts are those that the formatter has for the number: of its magnitude and plural category. In `en`,
     /// `1.25M` and `900` are accepted, and `1250K`, `0.5M`, `0K` and `1200` are `Syntax`. In `fr` `mille` is 1000.
+    /// Beside a unit `1.2K days` is accepted, and `1.2K day` and `1 days` are `Syntax`.
     ///
     /// # Errors
     ///

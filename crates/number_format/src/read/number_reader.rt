@@ -473,8 +473,8 @@ impl NumberReader {
     /// In compact notation it has the words of the number's magnitude and plural category: in `en`, `1.25M` is 1250000,
     /// and `1250K`, `0.5M` and `1200` are `Syntax`. The value is the significand times the power of ten. A word without
     /// a number, as `mille` in French, is 1 times its power of ten. The text of a unit, of the name of a currency or of
-    /// percent may be that of any plural category. It depends on the number before it was rounded, which the text does
-    /// not show: `1.2K day` is read too.
+    /// percent is that of the number before it was rounded, which the text does not show. After a word it may be that
+    /// of any plural category but those of 1 alone and of 2 alone: `1.2K days` is read, and `1.2K day` is `Syntax`.
     ///
     /// # Errors
     ///

@@ -1,7 +1,6 @@
 //! Texts of units without a number: in Arabic `يومان` is two days.
-ghost use Rattle.std.specs.Prelude.{◌≡◌, ◌↔◌, IsTrue, IsSomeAnd, MatchOption};
-ghost use Rattle.locale_data.specs.Plurals.{HoldsAlone};
-ghost use Rattle.number_format.specs.{CompactReading.HasNoDigit, FormattedNumbers.IsOuter, NumberText.outer_by, WholeUnits.{unit_around, unit_text, lone_number, AreCategoriesRead, AreUnitsApart, IsCategoryRead, IsCategoryUnread, IsUnitRead, IsUnitText, SaysNone, SaysNumber}};
+ghost use Rattle.std.specs.Prelude.{◌≡◌, ◌↔◌, IsTrue, MatchOption};
+ghost use Rattle.number_format.specs.{CompactReading.{HasNoDigit, IsAlone}, FormattedNumbers.IsOuter, NumberText.outer_by, WholeUnits.{unit_around, unit_text, AreCategoriesRead, AreUnitsApart, IsCategoryRead, IsCategoryUnread, IsUnitRead, IsUnitText, SaysNone, SaysNumber}};
 
 use crate::format::formatter::NumberFormatter;
 use crate::format::outer::{OuterAround, OuterTexts};
@@ -90,8 +89,9 @@ pub(crate) fn number_said(texts: &OuterTexts, text: &[u8]) -> Option<u8>
 }
 
 impl NumberFormatter {
-    fn holds_lone_number(&self, category: PluralCategory) -> bool
-        ensures { IsTrue result ↔ IsSomeAnd (lone_number category) (HoldsAlone self.now.rules category) }
+    /// Returns whether the category is that of 1 alone, or of 2 alone.
+    pub(crate) fn holds_lone_number(&self, category: PluralCategory) -> bool
+        ensures { IsTrue result ↔ IsAlone self.now category }
     {
         match category {
             One => holds_alone(self.rules, One, 1),

@@ -99,7 +99,7 @@ module _ (notation : Notation) (o : DigitOptions) (sign : Sign) (n : ℕ) (s : S
   exceeds e m =
       int_lt highest_magnitude (position_at o.precision e m) || reaches_limit (rounded_at o sign e m).number
 
-  within_or_none : (e m : ℕ) → (rounded_within o sign e m ≡ None)
+  pub within_or_none : (e m : ℕ) → (rounded_within o sign e m ≡ None)
       ⊎ ((rounded_within o sign e m ≡ Some (rounded_at o sign e m)) × ((rounded_at o sign e m).number < number_limit))
   within_or_none e m = grind (arith, below)
 

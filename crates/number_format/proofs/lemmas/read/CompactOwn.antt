@@ -1,19 +1,26 @@
 -- Whether a significand is written with the texts of a pattern.
-use Rattle.std.proofs.{Common.{◌≡◌, ◌≢◌, ℕ, Bool, true, false, List, ◌++◌, length, inl, inr, refl, sym, ◌∙◌, ap, subst, w16, to_z, of_z, FitsSigned, arith}, lemmas.{Bool.cases_Bool, Int.to_z-of_z, List.Elements.All-contains}}
-use Rattle.std.specs.{Prelude.{◌↔◌, IsTrue, All, Result, Ok, Err, ℤ, pos, ◌≤ℤ◌}, List.Contains}
+use Rattle.std.proofs.{Common.{◌≡◌, ◌≢◌, ℕ, zero, suc, Bool, true, false, List, ◌++◌, length, inl, inr, refl, sym, ◌∙◌, ap, subst, w16, to_z, of_z, FitsSigned, arith}, lemmas.{Bool.cases_Bool, Int.to_z-of_z, List.Elements.All-contains}}
+use Rattle.std.specs.{Prelude.{◌↔◌, ◌⊎◌, IsTrue, All, Result, Ok, Err, ℤ, pos, negsuc, ◌≤ℤ◌}, List.Contains}
 use Rattle.decimal_unsigned.specs.{Unsigned.{one_value}, declared.error.ParseError.ParseError}
 use Rattle.fixed_decimal.specs.{Decimal.Decimal}
 use Rattle.plural_rules.specs.{Operands.plain, declared.rules.PluralCategory.PluralCategory}
 use Rattle.locale_data.specs.{declared.compact.CompactStyle.CompactStyle}
 use Rattle.decimal_format.specs.{Formatted.absolute_text, Reading.IsRead, Symbols.Affixes}
 use Rattle.locale_data.proofs.lemmas.tables.RulesTexts.{category_exists}
-use Rattle.number_format.specs.{declared.{format.formatter.NumberFormatter.NumberFormatter, read.{compact.keys.CompactKey.CompactKey, pattern.NumberPattern.NumberPattern}}, AffixedTexts.{Reader, shifted, IsNumeral, IsWritten, IsWrittenBy}, CompactReading.{category_at, has_number_at, whole_text, word_pattern, word_reader, AreByPower, AreWordPatterns, ChoosesOne, HasCompactExponents, IsReadShownInWords, is_unit, magnitude_by, HasOneText, HasOwnTexts, HasPowerOf, HasTextsOf, IsKeyBy, IsOwnOr, IsOwnPattern, IsPatternOf, IsReadByNumber, IsShownInWords, IsReadInAnyWords, IsWordReader}, Scaled.exponent_at}
+use Rattle.number_format.specs.{declared.{format.formatter.NumberFormatter.NumberFormatter, read.{compact.keys.CompactKey.CompactKey, pattern.NumberPattern.NumberPattern}}, AffixedTexts.{Reader, shifted, IsNumeral, IsWritten, IsWrittenBy}, CompactReading.{category_at, has_number_at, whole_text, word_pattern, word_reader, AreByPower, AreWordPatterns, ChoosesOne, HasCompactExponents, IsReadShownInWords, is_unit, magnitude_by, HasOneText, HasOwnTexts, HasPowerOf, HasTextsAt, HasTextsOf, HasWholeCategory, IsAlone, IsKeyBy, IsOwnOr, IsOwnPattern, IsPatternOf, IsReadByNumber, IsShownInWords, IsReadInAnyWords, IsWordReader}, Scaled.exponent_at}
 use Rattle.number_format.proofs.lemmas.{range.RangeEnds.category_unique, read.{AffixedNumbers.two_texts, CompactKeys.{code, coded}, CompactPatterns.AllBelow, CompactTexts.small_exponent}}
 
 -- the magnitude of a key is kept as a 16-bit integer
 pub narrow_key : (P : CompactKey → Type 0) (k : CompactKey) → FitsSigned w16 k.magnitude
     → P (record k { magnitude = to_z w16 (of_z w16 k.magnitude) }) → P k
 narrow_key P k fits x = subst (λ (z : ℤ). P (record k { magnitude = z })) (to_z-of_z w16 k.magnitude fits) x
+
+-- the whole number may have some category
+some_whole : (f : NumberFormatter) (c : PluralCategory) (e : ℤ)
+    → (whole : PluralCategory) × (((e ≡ pos 0) × (whole ≡ c)) ⊎ ((e ≢ pos 0) × ¬ IsAlone f whole))
+some_whole f c (pos zero) = (c, inl (refl, refl))
+some_whole f c (pos (suc n)) = (PluralCategory.Other, inr (λ e. absurd (cc), λ alone. alone))
+some_whole f c (negsuc n) = (PluralCategory.Other, inr (λ e. absurd (cc), λ alone. alone))
 
 module _ (f : NumberFormatter) (style : CompactStyle) (v : Decimal) (p : NumberPattern) (sign : p.sign ≡ v.sign)
   where
@@ -30,11 +37,13 @@ module _ (f : NumberFormatter) (style : CompactStyle) (v : Decimal) (p : NumberP
         → IsOwnPattern f style v p
     own_power_is by listed has =
         let category = category_exists f.rules (plain v.absolute) f.rules_listed in
+        let m = magnitude_by v.absolute p.exponent in
+        let whole = some_whole f category.0 (exponent_at f.notation m) in
         let k : CompactKey = record {
-          magnitude = magnitude_by v.absolute p.exponent;
+          magnitude = m;
           category = category.0;
           is_one = is_unit v.absolute;
-          whole = PluralCategory.Other;
+          whole = whole.0;
           sign = p.sign;
         } in
         record {
@@ -42,6 +51,7 @@ module _ (f : NumberFormatter) (style : CompactStyle) (v : Decimal) (p : NumberP
           own = record {
             magnitude = ap (magnitude_by v.absolute) (sym has);
             category = category.1;
+            whole = whole.1;
             one = inl refl;
             sign = sign;
           };
@@ -66,11 +76,12 @@ module _ (f : NumberFormatter) (style : CompactStyle) (v : Decimal) (p : NumberP
           magnitude = by.magnitude
               ∙ ap (magnitude_by v.absolute) (sym by.power ∙ ap (exponent_at f.notation) (sym by.magnitude));
           category = by.category;
+          whole = has.1.1.0;
           one = chosen;
           sign = by.sign ∙ sign;
         };
         has = has.0;
-        is = (has.1.1, sym by.sign, sym by.power ∙ ap (exponent_at f.notation) (sym by.magnitude));
+        is = (has.1.1.1, sym by.sign, sym by.power ∙ ap (exponent_at f.notation) (sym by.magnitude));
       }
 
       texts_by : (own : IsOwnPattern f style v p) → HasTextsOf f style p (with_one own.key.is_one)
@@ -89,7 +100,13 @@ module _ (f : NumberFormatter) (style : CompactStyle) (v : Decimal) (p : NumberP
             sign = (sym own.is.1 ∙ sym by.sign) i;
           } in (
             ap (has_number_at f style) (sym same) ∙ own.has,
-            (q.whole, own.is.0 ∙ ap (λ x. (word_pattern f style x).affixes) same),
+            (
+              q.whole,
+              (
+                subst (HasWholeCategory f) same own.own.whole,
+                own.is.0 ∙ ap (λ x. (word_pattern f style x).affixes) same,
+              ),
+            ),
           )
 
       -- the pattern is one of the number exactly if it has the texts of its key
@@ -107,7 +124,7 @@ module _ (f : NumberFormatter) (style : CompactStyle) (v : Decimal) (p : NumberP
 -- the texts of a key are those of some category of the whole number
 module _ (f : NumberFormatter) (style : CompactStyle) (p : NumberPattern) (k : CompactKey) where
   abbrev HasTexts : PluralCategory → Type 0
-  HasTexts whole = p.affixes ≡ (word_pattern f style (record k { whole = whole })).affixes
+  HasTexts whole = HasTextsAt f style p (record k { whole = whole })
 
   -- they are not those of a category with an index
   abbrev pub LacksTexts : ℕ → Type 0

@@ -12,8 +12,8 @@ use Rattle.locale_data.specs.{Plurals.IsCategoryAt, declared.compact.CompactStyl
 use Rattle.locale_data.proofs.lemmas.tables.HeldAlone.{held_is_number}
 use Rattle.decimal_format.specs.Formatted.{absolute_text}
 use Rattle.decimal_format.proofs.lemmas.reader.Scans.{begins-append}
-use Rattle.number_format.specs.{declared.{digits.options.DigitOptions.DigitOptions, format.formatter.NumberFormatter.NumberFormatter, notation.Notation.Notation, options.{NumberNotation.NumberNotation, NumberStyle.NumberStyle}, read.compact.keys.CompactKey.CompactKey}, FormattedNumbers.{visible_text, exponent_text}, AffixedTexts.{between, shifted, IsWrittenBy}, CompactReading.{has_number_at, inner_at, is_single, word_pattern, magnitude_by, is_unit, one_of, word_reader, ChoosesOne, HasCompactExponents, HasWordNumbers, IsNoWhole, IsForOneAlone, IsOwnInWords, IsOwnKey, IsReadByNumber, IsReadInWords, IsReadShownInWords, IsSaid, IsShownInWords, IsWholeOf}, NumberReading.{CanRead, CanReadExponents, CanReadNotation, CanReadWords, IsShownAs, KeepsNotation, words_of, AreOwnWordsNamed, HasNumbers}, NumberText.{IsNumberText, around_by, bare_separator, compact_magnitude, compact_pattern, compact_power, compact_style, exponent_of, is_negative, is_one, number_before_cut, rounded_by, rounded_in, shown_sign}, ScientificReading.exponent_form, Scaled.{ScaledValue, base_exponent, compact_exponent, exponent_at, rounded_number, IsOrdered}}
-use Rattle.number_format.proofs.lemmas.{format.PieceTexts.{shows_integer, text-of_digits_and_exponent}, notation.Scales.{keeps_exponent, keeps_value_of, zero_exponent}, read.{AffixedNumbers.{two_texts, value_text_is}, CompactKeys.{clamped, same_exponent_at}, FormatterTexts.{inner_by, text_by, some_same, no_words}, ShownValues.scaled_first, WholeUnits.has_numbers}}
+use Rattle.number_format.specs.{declared.{digits.options.DigitOptions.DigitOptions, format.formatter.NumberFormatter.NumberFormatter, notation.Notation.Notation, options.{NumberNotation.NumberNotation, NumberStyle.NumberStyle}, read.compact.keys.CompactKey.CompactKey}, FormattedNumbers.{visible_text, exponent_text}, AffixedTexts.{between, shifted, IsWrittenBy}, CompactReading.{has_number_at, inner_at, is_single, word_pattern, magnitude_by, is_unit, one_of, word_reader, ChoosesOne, HasCompactExponents, HasWholeCategory, HasWordNumbers, IsNoWhole, IsForOneAlone, IsOwnInWords, IsOwnKey, IsReadByNumber, IsReadInWords, IsReadShownInWords, IsSaid, IsShownInWords, IsWholeOf}, NumberReading.{CanRead, CanReadExponents, CanReadNotation, CanReadWords, IsShownAs, KeepsNotation, words_of, AreOwnWordsNamed, HasNumbers}, NumberText.{IsNumberText, around_by, bare_separator, compact_magnitude, compact_pattern, compact_power, compact_style, exponent_of, is_negative, is_one, number_before_cut, operands_by, rounded_by, rounded_in, shown_sign, whole_by, whole_number}, ScientificReading.exponent_form, Scaled.{ScaledValue, base_exponent, compact_exponent, exponent_at, rounded_number, IsOrdered}}
+use Rattle.number_format.proofs.lemmas.{format.PieceTexts.{shows_integer, text-of_digits_and_exponent}, notation.Scales.{keeps_exponent, keeps_value_of, zero_exponent}, range.RangeEnds.category_unique, read.{AffixedNumbers.{two_texts, value_text_is}, CompactKeys.{clamped, same_exponent_at}, FormatterTexts.{inner_by, text_by, some_same, no_words}, ShownValues.scaled_first, WholeCategories.{IsBeside, whole_category}, WholeUnits.has_numbers}}
 
 -- ---- The exponent.
 
@@ -251,16 +251,62 @@ module _ (f : NumberFormatter) (style : CompactStyle) (words : words_of f ≡ So
           (magnitude_is f.notation has shown.number.significand shown.number.exponent own_exponent own_zero)
           ∙ same_above f.notation has shown.number.significand shown.number.exponent own_exponent own_zero
 
+      own_category : (text : List ℕ) (t : IsNumberText f v text)
+          → IsCategoryAt f.rules (operands.plain shown.number.significand.absolute) t.1.category
+      own_category text t =
+          subst (λ (x : ScaledValue). IsCategoryAt f.rules (operands.plain x.significand.absolute) t.1.category)
+          (some_same _ _ (sym t.1.number_is ∙ shown.number_is)) t.1.of_significand
+
+      -- the category of the whole number, in compact notation
+      of_whole : (text : List ℕ) (t : IsNumberText f v text)
+          → IsCategoryAt f.rules (operands.plain (whole_number f v)) t.1.whole
+      of_whole text t = by f.options.notation words t.1.of_whole
+        where
+          by : (n : NumberNotation) → compact_style n f.options.style ≡ Some style
+              → IsCategoryAt f.rules (operands_by n (whole_number f v) t.1.number) t.1.whole
+              → IsCategoryAt f.rules (operands.plain (whole_number f v)) t.1.whole
+          by (NumberNotation.Compact w) is of_number = of_number
+          by NumberNotation.Standard is of_number = absurd (cc)
+          by (NumberNotation.Scientific o) is of_number = absurd (cc)
+          by (NumberNotation.Engineering o) is of_number = absurd (cc)
+
+      beside : (c : PluralCategory) → IsCategoryAt f.rules (operands.plain (whole_number f v)) c
+          → IsBeside f.rules shown.number c
+      beside c is =
+          let w = scaled_first f v shown.number valid shown.number_is in
+          by f.digits w.0 w.1 (can_read can.undo.0.0).0 w.2
+          (subst (λ a. IsCategoryAt f.rules (operands.plain a) c) w.4 is)
+        where
+          by : (digits : Option DigitOptions) (w : Decimal) → IsValue w.absolute → KeepsNotation digits
+              → rounded_in f.notation digits w ≡ Some shown.number
+              → IsCategoryAt f.rules (operands.plain (whole_by digits w)) c → IsBeside f.rules shown.number c
+          by None w value keeps is whole = absurd keeps
+          by (Some o) w value keeps is whole =
+              whole_category f.notation (λ m. (small_exponent f.notation (can_read can.undo.0.0).1.0 m).0) o keeps.0
+              keeps.1 w value shown.number is f.rules c whole
+
+      -- the key has it
+      own_whole : (text : List ℕ) (t : IsNumberText f v text) → HasWholeCategory f (key_of text t)
+      own_whole text t = elim (beside t.1.whole (of_whole text t)) [
+        | inl same ↦
+            inl (
+              exponent_of_key text t ∙ same.0,
+              category_unique f.rules (operands.plain shown.number.significand.absolute)
+                  t.1.whole t.1.category same.1 (own_category text t),
+            )
+        | inr divided ↦ inr (λ zero. omega (arith, ints, divided.0, sym (exponent_of_key text t) ∙ zero), divided.1)
+      ]
+
       own_key : (text : List ℕ) (t : IsNumberText f v text) → IsOwnKey f u (key_of text t)
       own_key text t =
           let number = shown.number in
           let has = (can_read can.undo.0.0).1.0 in
-          let same : t.1.number ≡ number = some_same _ _ (sym t.1.number_is ∙ shown.number_is) in
           record {
             magnitude = magnitude_is f.notation has number.significand number.exponent own_exponent own_zero
                 ∙ (λ i. magnitude_by (sym shown.absolute i) (sym (exponent_of_key text t) i));
-            category = subst (λ a. IsCategoryAt f.rules (operands.plain a) t.1.category)
-                (ap (λ (x : ScaledValue). x.significand.absolute) same ∙ sym shown.absolute) t.1.of_significand;
+            category = subst (λ a. IsCategoryAt f.rules (operands.plain a) t.1.category) (sym shown.absolute)
+                (own_category text t);
+            whole = own_whole text t;
             one = chosen f u (is_unit number.significand.absolute) number.significand.sign f.options.sign_display refl
                 (sym (ap is_unit shown.absolute));
             sign = sym shown.sign;

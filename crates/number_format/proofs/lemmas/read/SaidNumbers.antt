@@ -2,7 +2,7 @@
 use Rattle.std.proofs.Common.{◌≡◌, ℕ, Bool, true, false, List, refl, sym, ◌∙◌}
 use Rattle.std.specs.Prelude.{Some}
 use Rattle.plural_rules.specs.declared.rules.PluralCategory.{PluralCategory}
-use Rattle.number_format.specs.{declared.format.{formatter.NumberFormatter.NumberFormatter, outer.OuterTexts.OuterTexts}, NumberText.outer_by, WholeUnits.{lone_number, IsCategoryRead, IsUnitRead, IsUnitText, SaysNone}}
+use Rattle.number_format.specs.{declared.format.{formatter.NumberFormatter.NumberFormatter, outer.OuterTexts.OuterTexts}, CompactReading.lone_number, NumberText.outer_by, WholeUnits.{IsCategoryRead, IsUnitRead, IsUnitText, SaysNone}}
 
 -- a category that is not read has none
 pub is_unread : (f : NumberFormatter) (c : PluralCategory) → ¬ IsCategoryRead f c

@@ -5,7 +5,7 @@ use Rattle.decimal_digits.specs.Number.{offset, weight, first, last, number_limi
 use Rattle.decimal_unsigned.specs.{Edits.{leaves_limits, multiplied, multiplied_pow10}, Unsigned.{Unsigned, IsValue}}
 use Rattle.fixed_decimal.specs.Decimal.{Decimal, with_absolute}
 use Rattle.fixed_decimal.proofs.Calling.{powers, offset_is, ten_pos, extent, first_of, last_of, first_le, last_zero}
-use Rattle.number_format.specs.{declared.{digits.options.{DigitOptions.DigitOptions, TrailingZeros.{TrailingZeros, TheVariants.{Auto, StripIfInteger}}}, format.formatter.NumberFormatter.NumberFormatter, notation.Notation.Notation}, NumberReading.IsShownAs, NumberText.{number_before_cut, rounded_by, rounded_in, shown_number}, Scaled.{ScaledValue, scaled_value, Settled, base_exponent, raised as raised_to, written, settled, scaled}, ShownDigits.{padded, stripped, shown}}
+use Rattle.number_format.specs.{declared.{digits.options.{DigitOptions.DigitOptions, TrailingZeros.{TrailingZeros, TheVariants.{Auto, StripIfInteger}}}, format.formatter.NumberFormatter.NumberFormatter, notation.Notation.Notation}, NumberReading.IsShownAs, NumberText.{number_before_cut, rounded_by, rounded_in, shown_number, whole_by, whole_number}, Scaled.{ScaledValue, scaled_value, Settled, base_exponent, raised as raised_to, written, settled, scaled}, ShownDigits.{padded, stripped, shown, shown_whole}}
 
 -- a power of ten divides a number that ends with no fewer zeros
 ends_low : (n factor bottom low : ℕ) → low ≤ bottom → n ≡ factor * 10 ^ bottom → n % 10 ^ low ≡ 0
@@ -86,6 +86,19 @@ shown_is_value o r end =
     stripped_value o.trailing_zeros (padded o r end) (padded_few o r) (omega (arith, ints, clamps))
     (padded_value o r end)
 
+-- all digits of a rounded number
+pub whole_is_value : (o : DigitOptions) (r : ℕ) (end : ℤ) → r < number_limit → IsValue (shown_whole o r end)
+whole_is_value o r end few =
+    let v : Unsigned = record {
+      number = r;
+      hi = int_max (pos 0) (first r);
+      lo = int_min (int_min (int_max end lowest_magnitude) (pos 0)) (last r);
+    } in
+    stripped_value o.trailing_zeros v few (omega (arith, ints, clamps))
+    (in_range r few v.hi v.lo (omega (arith, ints, clamps), omega (arith, ints, clamps, first_to r few))
+    (omega (arith, ints, clamps, last_from r few), omega (arith, ints, clamps)) (omega (arith, ints, clamps))
+    (omega (arith, ints, clamps)))
+
 -- ---- Times a power of ten.
 
 stays : (b : Bool) (x w : Unsigned) → (if b then None else Some x) ≡ Some w → (b ≡ false) × (x ≡ w)
@@ -156,7 +169,7 @@ module _ (v : Unsigned) (valid : IsValue v) where
 
 -- ---- What is shown.
 
-chosen : (b : Bool) (x y : ScaledValue) → (if b then None else Some x) ≡ Some y → x ≡ y
+pub chosen : (b : Bool) (x y : ScaledValue) → (if b then None else Some x) ≡ Some y → x ≡ y
 chosen true x y e = absurd (cc)
 chosen false x y e = cc
 
@@ -182,23 +195,25 @@ rounded_value notation None v x valid e =
     subst IsValue (ap (λ (s : ScaledValue). s.significand.absolute) (chosen false (scaled_value v (pos 0)) x e)) valid
 rounded_value notation (Some o) v x valid e = scaled_value_is notation o v x e
 
--- the number before it is rounded is a value, and its sign is shown by what it is rounded to
+-- the number before it is rounded is a value; its sign is shown by what it is rounded to, and compact notation divides
+-- it
 pub scaled_first : (f : NumberFormatter) (v : Decimal) (x : ScaledValue) → IsValue v.absolute
     → shown_number f v ≡ Some x
     → (w : Decimal) × IsValue w.absolute × (rounded_in f.notation f.digits w ≡ Some x)
-    × (number_before_cut f v ≡ rounded_by f.notation f.digits w)
+    × (number_before_cut f v ≡ rounded_by f.notation f.digits w) × (whole_number f v ≡ whole_by f.digits w)
 scaled_first f v x valid is = go (multiplied_pow10 v.absolute f.options.scale) refl is
   where
     go : (a : Option Unsigned) → multiplied_pow10 v.absolute f.options.scale ≡ a
         → option_and_then (rounded_in f.notation f.digits) (with_absolute v a) ≡ Some x
         → (w : Decimal) × IsValue w.absolute × (rounded_in f.notation f.digits w ≡ Some x)
-        × (number_before_cut f v ≡ rounded_by f.notation f.digits w)
+        × (number_before_cut f v ≡ rounded_by f.notation f.digits w) × (whole_number f v ≡ whole_by f.digits w)
     go None e h = absurd (cc)
     go (Some a) e h = (
       record v { absolute = a },
       multiplied_value v.absolute valid a f.options.scale e,
       h,
       ap (λ x. option_map_or (rounded_by f.notation f.digits) (with_absolute v x) 0) e,
+      ap (λ x. option_map_or (whole_by f.digits) (with_absolute v x) v.absolute) e,
     )
 
 pub shown_value : (f : NumberFormatter) (v u : Decimal) → IsValue v.absolute → IsShownAs f v u → IsValue u.absolute

@@ -9,7 +9,7 @@ use Rattle.locale_names.specs.LocaleCurrencies.{name_for, pattern_for}
 use Rattle.locale_data.proofs.lemmas.tables.HeldAlone.{held_is_number}
 use Rattle.decimal_format.specs.Formatted.{absolute_text}
 use Rattle.decimal_format.proofs.lemmas.reader.Scans.{begins-append}
-use Rattle.number_format.specs.{declared.{format.{formatter.NumberFormatter.NumberFormatter, outer.OuterTexts.OuterTexts}, options.NumberStyle.NumberStyle}, AffixedTexts.{shifted, IsShown}, NumberReading.{CanRead, HasNumbers, IsReadOrSaid, IsShownAs, IsStandard, reader_of, words_of}, NumberText.{number_before_cut, outer_by, outer_texts, place_of, name_texts, IsNumberText}, PatternTexts.{Around, within}, TextParts.{Piece, pieces_text}, WholeUnits.{lone_number, said, unit_around, AreCategoriesRead, AreUnitsApart, IsCategoryRead, IsSaidOf, IsUnitRead, IsUnitText, SaysNone, SaysNumber}}
+use Rattle.number_format.specs.{declared.{format.{formatter.NumberFormatter.NumberFormatter, outer.OuterTexts.OuterTexts}, options.NumberStyle.NumberStyle}, AffixedTexts.{shifted, IsShown}, CompactReading.lone_number, NumberReading.{CanRead, HasNumbers, IsReadOrSaid, IsShownAs, IsStandard, reader_of, words_of}, NumberText.{number_before_cut, outer_by, outer_texts, place_of, name_texts, IsNumberText}, PatternTexts.{Around, within}, TextParts.{Piece, pieces_text}, WholeUnits.{said, unit_around, AreCategoriesRead, AreUnitsApart, IsCategoryRead, IsSaidOf, IsUnitRead, IsUnitText, SaysNone, SaysNumber}}
 use Rattle.number_format.proofs.lemmas.{format.PieceTexts.text-append, read.{AffixedNumbers.{named_texts_are_unique, value_text_is}, FormatterTexts.{category_of, formatter_text, no_words, within_number}, ReadBack.reads}}
 
 -- ---- Categories without a number.

@@ -1,8 +1,8 @@
 //! Words of compact notation as people type them: with other spaces, without periods, in capitals or small letters.
-ghost use Rattle.std.specs.{Prelude.{◌≡◌, ◌≢◌, ℕ, [], ◌∷◌, ◌++◌, ◌↔◌, ◌<◌, ◌≤◌, ◌≤ℤ◌, pos, Err, List, length, take, MatchOption, IsTrue, true}, Bool.{OnTrue, OnFalse}, Str.{chars, IsUtf8}};
+ghost use Rattle.std.specs.{Prelude.{◌≡◌, ◌≢◌, ℕ, [], ◌∷◌, ◌++◌, ◌↔◌, ◌<◌, ◌≤◌, ◌≤ℤ◌, pos, Err, List, length, take, MatchOption, IfSome, IsTrue, true}, Option.option_copied, Bool.{OnTrue, OnFalse}, Str.{chars, IsUtf8}};
 ghost use Rattle.decimal_unsigned.specs.declared.error.ParseError.{TheVariants.Syntax};
-ghost use Rattle.locale_data.specs.Compact.{has_texts};
-ghost use Rattle.number_format.specs.TypedWords.{is_kept, lowered, folded, IsCut, IsSkipped, IsKeptFirst, FollowsWord, IsAfterWord, IsWithoutWord, IsNoneLeft, is_no_word, has_no_word, has_no_word_after, last_text, word_of, word_before_of, power_of, IsReadLeft, IsReadAfter, IsReadWithout, IsMeaning, Fits, HasOther, HasNoOther, IsOneMeaning, IsReadByWord, typing};
+ghost use Rattle.locale_data.specs.Compact.{has_texts, AreTexts};
+ghost use Rattle.number_format.specs.TypedWords.{is_kept, lowered, folded, IsCut, IsSkipped, IsKeptFirst, FollowsWord, IsAfterWord, IsWithoutWord, IsNoneLeft, is_no_word, has_no_word, has_no_word_after, last_text, typed_pattern, word_of, word_before_of, power_of, IsReadLeft, IsReadAfter, IsReadWithout, IsMeaning, Fits, HasOther, HasNoOther, IsOneMeaning, IsReadByWord, typing};
 
 use crate::format::formatter::NumberFormatter;
 use crate::format::outer::OuterTexts;
@@ -191,15 +191,24 @@ impl TypedText<'_> {
             .exponent_at(key_at(18 * index).magnitude)
     }
 
+    // None beside a unit or a name: `5m` may be meters or millions.
+    fn pattern(&self, index: usize) -> Option<&'static CompactPattern>
+        requires { index < 216 }
+        ensures value { option_copied result ≡ typed_pattern self.now.formatter.now self.now.style index }
+        ensures texts { IfSome result (λ p. AreTexts p.now) }
+    {
+        match &self.formatter.outer {
+            OuterTexts::None => self.formatter.word(self.style, key_at(18 * index)),
+            _ => None,
+        }
+    }
+
     fn word(&self, index: usize) -> &'static str
         requires { index < 216 }
         ensures { result.now ≡ word_of self.now.formatter.now self.now.style index }
     {
-        let pattern = self.formatter.word(self.style, key_at(18 * index));
-        match (&self.formatter.outer, pattern) {
-            (OuterTexts::None, Some(pattern)) if has_no_word(&pattern.prefix) => {
-                pattern.suffix.before_text()
-            }
+        match self.pattern(index) {
+            Some(pattern) if has_no_word(&pattern.prefix) => pattern.suffix.before_text(),
             _ => "",
         }
     }
@@ -208,11 +217,8 @@ impl TypedText<'_> {
         requires { index < 216 }
         ensures { result.now ≡ word_before_of self.now.formatter.now self.now.style index }
     {
-        let pattern = self.formatter.word(self.style, key_at(18 * index));
-        match (&self.formatter.outer, pattern) {
-            (OuterTexts::None, Some(pattern)) if has_no_word_after(pattern) => {
-                last_text(&pattern.prefix)
-            }
+        match self.pattern(index) {
+            Some(pattern) if has_no_word_after(pattern) => last_text(&pattern.prefix),
             _ => "",
         }
     }
