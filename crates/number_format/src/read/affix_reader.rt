@@ -220,10 +220,8 @@ impl<'a> AffixReader<'a> {
     ) -> Result<Signed<UnsignedOver<D>>, ParseError>
         ensures { IsReadShown D.L self.now text.now result }
     {
-        match self.read_pattern(alloc, text) {
-            Ok((value, pattern)) => self.own(pattern, value, text),
-            Err(error) => Err(error),
-        }
+        let (value, pattern) = self.read_pattern(alloc, text)?;
+        self.own(pattern, value, text)
     }
 
     /// Multiplies what was read by 10^shift.

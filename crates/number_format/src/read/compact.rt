@@ -262,10 +262,8 @@ impl CompactReader {
     ) -> Result<Signed<UnsignedOver<D>>, ParseError>
         ensures { IsReadInAnyWords D.L self.now.0 self.now.1 text.now result }
     {
-        match self.reader.read_pattern(alloc, text) {
-            Ok((value, pattern)) => times(pattern, value),
-            Err(error) => Err(error),
-        }
+        let (value, pattern) = self.reader.read_pattern(alloc, text)?;
+        times(pattern, value)
     }
 
     fn read_number<D: DigitStore>(
@@ -275,10 +273,8 @@ impl CompactReader {
     ) -> Result<Signed<UnsignedOver<D>>, ParseError>
         ensures { IsReadByNumber D.L self.now.0 self.now.1 text.now result }
     {
-        match self.reader.read_pattern(alloc, text) {
-            Ok((value, pattern)) => self.own(pattern, value),
-            Err(error) => Err(error),
-        }
+        let (value, pattern) = self.reader.read_pattern(alloc, text)?;
+        self.own(pattern, value)
     }
 
     fn read_shown<D: DigitStore>(
