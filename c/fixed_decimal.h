@@ -287,6 +287,8 @@ enum fd_zeros { FD_ZEROS_OF_CHOSEN = 0, FD_ZEROS_OF_BOTH = 1 };
 
 /* Which groups of integer digits are separated: those of the locale, or groups of three digits. */
 enum fd_group_sizes { FD_GROUPS_OF_LOCALE = 0, FD_GROUPS_OF_THREE = 1 };
+/* Whether another unit is written after a percentage, short or narrow and not in compact notation: 1% or 1%/h. */
+enum fd_per_display { FD_PER_AUTO = 0, FD_PER_ALWAYS = 1 };
 
 /* Which sign an exponent has: a minus sign below 0; also a plus sign else; none. */
 enum fd_exponent_sign { FD_EXPONENT_AUTO = 0, FD_EXPONENT_ALWAYS = 1, FD_EXPONENT_NEVER = 2 };
@@ -325,7 +327,8 @@ typedef struct fd_format_options {
     uint8_t trailing_zeros;
     uint8_t has_numbering_system; /* 1; 0: it is that of the locale, and the name is ignored */
     uint8_t group_sizes;          /* an fd_group_sizes */
-    uint8_t reserved[29];         /* 0 */
+    uint8_t per_display;          /* an fd_per_display */
+    uint8_t reserved[28];         /* 0 */
 } fd_format_options;
 
 /* Rows of the library's tables, for what is written around the whole number. */

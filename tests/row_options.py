@@ -8,6 +8,7 @@ Options are words `name=value` by the names of ECMA-402, or JSON. These are beyo
 - `scientific=DIGITS,SIGN` and `engineering=DIGITS,SIGN`, with the digits and the sign of the exponent.
 - `scale=POWER`, which replaces that of the style before it.
 - `groupSizes`: `locale` or `thousands`.
+- `perDisplay`: `auto`, or `always` if another unit is written after a percentage.
 - `decimalSeparator`, and the words `permille` and `hidden`, as ICU has them.
 
 `check` is no option, but what a row checks.
@@ -44,7 +45,7 @@ FRACTION = ["minimum_fraction_digits", "maximum_fraction_digits"]
 SIGNIFICANT = ["minimum_significant_digits", "maximum_significant_digits"]
 PRECISIONS = ["all", "fraction", "multiples", "significant", "more", "less"]
 # What options have beyond those of ECMA-402.
-BEYOND = ["integer", "scientific", "engineering", "groupSizes", *PRECISIONS]
+BEYOND = ["integer", "scientific", "engineering", "groupSizes", "perDisplay", *PRECISIONS]
 
 
 def field_of(name):
@@ -151,6 +152,8 @@ def set_beyond(struct, options):
             set_pair(struct, ("minimum_integer_digits", "maximum_integer_digits"), value)
         elif name == "groupSizes":
             struct.group_sizes = ["locale", "thousands"].index(value)
+        elif name == "perDisplay":
+            struct.per_display = ["auto", "always"].index(value)
         elif name in BEYOND:
             digits, sign = value.split(",")
             set_number(struct, "exponent_digits", int(digits))

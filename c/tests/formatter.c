@@ -179,7 +179,7 @@ static void test_parts(void) {
     CHECK(r.status == FD_SYNTAX && r.count == 0 && r.parts == 0);
     r = fd_format_parts(&f, B("1e32767"), buffer, 8, parts, 4);
     CHECK(r.status == FD_OVERFLOW && r.at == 0 && r.count == 0 && r.parts == 0);
-    f.options.reserved[28] = 1;
+    f.options.reserved[27] = 1;
     r = fd_format_parts(&f, B("x"), buffer, 8, parts, 4);
     CHECK(r.status == FD_FORMATTER && r.count == 0 && r.parts == 0);
 }

@@ -27,6 +27,7 @@ _WORDS = {
     "exponent_sign": ("auto", "always", "never"),
     "decimal_separator": ("auto", "always"),
     "group_sizes": ("locale", "thousands"),
+    "per_display": ("auto", "always"),
 }
 # Words that number skeletons have, and ECMA-402 has not.
 _OF_SKELETONS = ("permille", "hidden")
@@ -145,7 +146,7 @@ def resolved_options(locale, options):
     """Returns a dictionary of the options of a locale that an `fd_format_options` has, from its bytes."""
     (least, most, scale, exponent_digits, integer, most_integer, fraction, most_fraction, increment, style, currency,
      system, display, sign, usage, unit, per_unit, unit_display, notation, exponent_sign, sign_display, grouping,
-     separator, precision, _, mode, zeros, _, group_sizes) = struct.unpack("=IIh6HB3s16s17B29x", options)
+     separator, precision, _, mode, zeros, _, group_sizes, per_display) = struct.unpack("=IIh6HB3s16s18B28x", options)
 
     found = {"locale": locale, "numbering_system": system.decode().rstrip(" "), **_words(style=style)}
     if found["style"] == "currency":
@@ -153,6 +154,7 @@ def resolved_options(locale, options):
         found |= _words(currency_usage=usage) if usage else {}
     elif found["style"] == "unit":
         found |= {"unit": _unit_text(unit, per_unit), **_words(unit_display=unit_display)}
+        found |= _words(per_display=per_display) if per_display else {}
     if scale != 2 * (found["style"] == "percent"):
         found["scale"] = scale
     if separator:

@@ -29,7 +29,8 @@ COUNTS = ["{@*65536}", "{@*65537}", "@{#*65535}", "@{#*65536}", ".{0*32768}", ".
           "{.*65536}", "{percent *65536}", "currency/{E*65536}", "numbering-system/{l*65536}", "{/*65536}"]
 DEFAULTS = {"style": "decimal", "currencyDisplay": "symbol", "currencySign": "standard", "currencyUsage": "standard",
             "compactDisplay": "short", "unitDisplay": "short", "decimalSeparator": "auto", "integer": "1,32768",
-            "trailingZeroDisplay": "auto", "signDisplay": "auto", "useGrouping": "auto", "groupSizes": "locale"}
+            "trailingZeroDisplay": "auto", "signDisplay": "auto", "useGrouping": "auto", "groupSizes": "locale",
+            "perDisplay": "auto"}
 
 
 def rows(path):
@@ -75,8 +76,6 @@ def unsupported(text, reading, said):
         return first(text, r"unit-width-(?:formal|variant)")
     if not re.fullmatch("[A-Za-z]{3}", said.options.get("currency", "XXX")):
         return "currency"
-    if loses_second(reading, said):
-        return first(text, r"unit|measure-unit")
     if "scale" in kinds or not -32768 <= said.scale <= 32767:
         return "scale"
     if reading.notation in ("scientific", "engineering") and not 1 <= reading.exponent_digits <= 65535:
@@ -163,6 +162,7 @@ def named(text, reading, said):
     if style == "unit":
         yield "unit", options["unit"].replace("-person", "")
         yield "unitDisplay", options["unitDisplay"]
+        yield "perDisplay", "always" if loses_second(reading, said) else "auto"
     if style == "currency":
         yield "currency", options["currency"]
         yield "currencyDisplay", "hidden" if "hidden" in said.kinds else options.get("currencyDisplay", "symbol")

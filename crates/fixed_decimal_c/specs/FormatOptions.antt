@@ -26,6 +26,7 @@ style_codes_in c = record {
   unit = c.unit;
   per_unit = c.per_unit;
   unit_display = c.unit_display;
+  per_display = c.per_display;
 }
 
 -- the notation with a number, and with this number of digits and number of a sign of an exponent
@@ -89,4 +90,4 @@ pub record AreFormatOptions (c : FdFormatOptions) (o : NumberOptions) : Type 0 w
   pub sizes : slice_get group_sizes c.group_sizes ≡ Some o.group_sizes
   pub separator : slice_get separators c.decimal_separator ≡ Some o.decimal_separator
   pub system : system_with c.has_numbering_system c.numbering_system ≡ Some o.numbering_system
-  pub reserved : c.reserved ≡ replicate 29 0
+  pub reserved : c.reserved ≡ replicate 28 0

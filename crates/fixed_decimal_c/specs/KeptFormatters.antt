@@ -131,7 +131,8 @@ no_options = record {
   trailing_zeros = 0;
   has_numbering_system = 0;
   group_sizes = 0;
-  reserved = replicate 29 0;
+  per_display = 0;
+  reserved = replicate 28 0;
 }
 
 abbrev pub no_formatter : FdFormatter

@@ -56,6 +56,7 @@ style_codes_of c = record {
   unit = c.unit;
   per_unit = c.per_unit;
   unit_display = c.unit_display;
+  per_display = 0;
 }
 
 -- C passes this style, and ECMA-402 has its unit

@@ -2,7 +2,7 @@
 use Rattle.std.specs.Prelude.{◌≡◌, Bool, true, List, [], ◌∷◌, slice_get, Some}
 use Rattle.locale_data.specs.{declared.currency.CurrencySign.CurrencySign, Codes.code_of}
 use Rattle.locale_names.specs.{declared.locale_units.UnitDisplay.UnitDisplay, Units.is_sanctioned}
-use Rattle.number_format.specs.declared.options.{CurrencyDisplay.CurrencyDisplay, CurrencyStyle.CurrencyStyle, CurrencyUsage.CurrencyUsage, NumberStyle.NumberStyle, UnitStyle.UnitStyle}
+use Rattle.number_format.specs.declared.options.{CurrencyDisplay.CurrencyDisplay, CurrencyStyle.CurrencyStyle, CurrencyUsage.CurrencyUsage, NumberStyle.NumberStyle, PerDisplay.PerDisplay, UnitStyle.UnitStyle}
 use Rattle.fixed_decimal_c.specs.{declared.styles.StyleCodes.StyleCodes, Units.HasNumbers}
 
 -- ---- Words, in the order of their numbers.
@@ -21,6 +21,9 @@ usages = CurrencyUsage.Standard ∷ CurrencyUsage.Cash ∷ []
 abbrev pub unit_displays : List UnitDisplay
 unit_displays = UnitDisplay.Short ∷ UnitDisplay.Narrow ∷ UnitDisplay.Long ∷ []
 
+abbrev pub per_displays : List PerDisplay
+per_displays = PerDisplay.Auto ∷ PerDisplay.Always ∷ []
+
 -- ---- Styles.
 
 -- the style of an amount of money
@@ -34,6 +37,7 @@ pub record IsAmount (c : StyleCodes) (m : CurrencyStyle) : Type 0 where
 pub record IsUnitStyle (c : StyleCodes) (u : UnitStyle) : Type 0 where
   pub unit : HasNumbers c.unit c.per_unit u.unit
   pub display : slice_get unit_displays c.unit_display ≡ Some u.display
+  pub per : slice_get per_displays c.per_display ≡ Some u.per_display
 
 -- the style with these numbers
 abbrev pub IsStyle : StyleCodes → NumberStyle → Type 0

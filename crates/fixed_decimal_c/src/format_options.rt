@@ -82,8 +82,10 @@ pub struct FdFormatOptions {
     pub has_numbering_system: u8,
     /// Which groups are separated: 0 those of the locale, 1 groups of three digits.
     pub group_sizes: u8,
+    /// Whether another unit is written after a percentage: 0 as `Intl.NumberFormat` does, 1 always.
+    pub per_display: u8,
     /// Zeros.
-    pub reserved: [u8; 29],
+    pub reserved: [u8; 28],
 }
 
 /// The options with all fields 0.
@@ -117,7 +119,8 @@ pub(crate) const NO_OPTIONS: FdFormatOptions = FdFormatOptions {
     trailing_zeros: 0,
     has_numbering_system: 0,
     group_sizes: 0,
-    reserved: [0; 29],
+    per_display: 0,
+    reserved: [0; 28],
 };
 
 const EXPONENT_SIGNS: [ExponentSign; 3] = [
@@ -145,6 +148,7 @@ impl FdFormatOptions {
             unit: self.unit,
             per_unit: self.per_unit,
             unit_display: self.unit_display,
+            per_display: self.per_display,
         }
     }
 
@@ -302,7 +306,7 @@ impl FdFormatOptions {
         ensures some { IfSome result (AreFormatOptions self.now) }
         ensures none { IfNone result ((o : NumberOptions) → AreFormatOptions self.now o → ⊥) }
     {
-        if self.reserved != [0; 29] {
+        if self.reserved != [0; 28] {
             return None;
         }
         let Some(style) = self.style() else {
@@ -412,7 +416,7 @@ fn system_codes(system: &Option<NumberingSystem>) -> (u8, [u8; 16])
 fn both_options(precision: u8, both: BothDigits) -> FdFormatOptions
     ensures precision { result.precision ≡ precision }
     ensures both { AreBoth result both }
-    ensures reserved { result.reserved ≡ replicate 29 0 }
+    ensures reserved { result.reserved ≡ replicate 28 0 }
 {
     FdFormatOptions {
         minimum_significant_digits: both.significant.min,
@@ -428,7 +432,7 @@ fn both_options(precision: u8, both: BothDigits) -> FdFormatOptions
 
 fn precision_options(precision: Precision) -> FdFormatOptions
     ensures precision { IsPrecision result precision }
-    ensures reserved { result.reserved ≡ replicate 29 0 }
+    ensures reserved { result.reserved ≡ replicate 28 0 }
 {
     match precision {
         Precision::Fraction(fraction) => FdFormatOptions {
@@ -459,7 +463,7 @@ fn precision_options(precision: Precision) -> FdFormatOptions
 
 fn digit_options(digits: Option<DigitOptions>) -> FdFormatOptions
     ensures digits { AreDigits result digits }
-    ensures reserved { result.reserved ≡ replicate 29 0 }
+    ensures reserved { result.reserved ≡ replicate 28 0 }
 {
     match digits {
         None => NO_OPTIONS,
@@ -505,6 +509,7 @@ impl FdFormatOptions {
             decimal_separator: separator_number(options.decimal_separator),
             has_numbering_system,
             group_sizes: sizes_number(options.group_sizes),
+            per_display: style.per_display,
             ..digits
         }
     }

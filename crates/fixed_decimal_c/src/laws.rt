@@ -3,7 +3,7 @@ ghost use Rattle.std.specs.{Prelude.{◌≡◌, ℕ, ◌+◌, Bool, List, ◌++�
 ghost use Rattle.conversions.specs.Calls.{Names};
 ghost use Rattle.fixed_decimal.specs.declared.runs.Call.{Call};
 ghost use Rattle.locale_names.specs.declared.{locale_units.UnitDisplay.UnitDisplay, unit_id.Unit.Unit};
-ghost use Rattle.number_format.specs.declared.options.NumberStyle.{NumberStyle};
+ghost use Rattle.number_format.specs.declared.options.{NumberStyle.NumberStyle, PerDisplay.PerDisplay};
 ghost use Rattle.fixed_decimal_c.specs.{Calls.{IsPart, IsCall}, Formats.{FormatsNumber, FormatsBySkeleton}, KeptFormatters.{FormatsKept, MakesByOptions, MakesBySkeleton, ReadsKept}, NumberOptions.IsOptionStyle, NumberReadings.{ReadsNumber, ReadsBySkeleton}, Styles.unit_displays, Units.{NamesUnit, fd_units}, Words.{IsReadWord, IsFormatWord, IsReadAnswer, IsFormatAnswer, IsCallAnswer, IsWord, moved_call}, declared.{calls.FdCall.FdCall, error.FdError.FdError, formatter.FdFormatter.FdFormatter, number_options.FdNumberOptions.FdNumberOptions, words.FdWord.FdWord}};
 
 /// A part of a word is a part of words that are placed one after another: its start counts the bytes before the word.
@@ -73,5 +73,6 @@ pub fn named_units_are_options()
     ensures { (name : List ℕ) (unit : Unit) (c : FdNumberOptions) (display : UnitDisplay) → NamesUnit name unit
         → c.style ≡ 4 → c.unit ≡ (fd_units (Ok unit)).unit → c.per_unit ≡ (fd_units (Ok unit)).per_unit
         → slice_get unit_displays c.unit_display ≡ Some display
-        → IsOptionStyle c (NumberStyle.Unit (record { unit = unit; display = display })) }
+        → IsOptionStyle c
+        (NumberStyle.Unit (record { unit = unit; display = display; per_display = PerDisplay.Auto })) }
 {}

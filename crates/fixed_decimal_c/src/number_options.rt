@@ -162,6 +162,7 @@ impl FdNumberOptions {
             unit: self.unit,
             per_unit: self.per_unit,
             unit_display: self.unit_display,
+            per_display: 0,
         }
     }
 

@@ -2,13 +2,15 @@
 ghost use Rattle.std.specs.Prelude.{◌≡◌, slice_get, Some, IfSome, IfNone};
 ghost use Rattle.locale_data.specs.Codes.{code_of};
 ghost use Rattle.number_format.specs.declared.options.{CurrencyStyle.CurrencyStyle, NumberStyle.NumberStyle, UnitStyle.UnitStyle};
-ghost use Rattle.fixed_decimal_c.specs.Styles.{displays, signs, usages, unit_displays, IsAmount, IsUnitStyle, IsStyle, has_sanctioned_unit};
+ghost use Rattle.fixed_decimal_c.specs.Styles.{displays, signs, usages, unit_displays, per_displays, IsAmount, IsUnitStyle, IsStyle, has_sanctioned_unit};
 
 use crate::choices::choice;
 use crate::units::{per_number, unit_number, unit_with};
 use locale_data::{CurrencyCode, CurrencySign};
 use locale_names::UnitDisplay;
-use number_format::{CurrencyDisplay, CurrencyStyle, CurrencyUsage, NumberStyle, UnitStyle};
+use number_format::{
+    CurrencyDisplay, CurrencyStyle, CurrencyUsage, NumberStyle, PerDisplay, UnitStyle,
+};
 
 /// The numbers of a style. Those that the style does not use are ignored; the library makes them 0.
 #[derive(Clone, Copy)]
@@ -29,6 +31,8 @@ pub struct StyleCodes {
     pub per_unit: u8,
     /// The width of the unit.
     pub unit_display: u8,
+    /// Whether another unit is written after a percentage.
+    pub per_display: u8,
 }
 
 const DISPLAYS: [CurrencyDisplay; 5] = [
@@ -49,6 +53,8 @@ const UNIT_DISPLAYS: [UnitDisplay; 3] = [
     UnitDisplay::Long,
 ];
 
+const PER_DISPLAYS: [PerDisplay; 2] = [PerDisplay::Auto, PerDisplay::Always];
+
 /// The numbers of a plain number.
 const PLAIN: StyleCodes = StyleCodes {
     style: 0,
@@ -59,6 +65,7 @@ const PLAIN: StyleCodes = StyleCodes {
     unit: 0,
     per_unit: 0,
     unit_display: 0,
+    per_display: 0,
 };
 
 // ---- The style with numbers.
@@ -89,6 +96,7 @@ impl StyleCodes {
         Some(UnitStyle {
             unit,
             display: choice(&UNIT_DISPLAYS, self.unit_display)?,
+            per_display: choice(&PER_DISPLAYS, self.per_display)?,
         })
     }
 
@@ -154,6 +162,12 @@ fn unit_display_number(display: UnitDisplay) -> u8
     }
 }
 
+fn per_display_number(display: PerDisplay) -> u8
+    ensures { slice_get per_displays result ≡ Some display }
+{
+    display as u8
+}
+
 fn code_bytes(code: &CurrencyCode) -> [u8; 3]
     ensures { code_of result ≡ Some code.now }
 {
@@ -182,6 +196,7 @@ impl StyleCodes {
                 unit: unit_number(style.unit.unit),
                 per_unit: per_number(style.unit.per),
                 unit_display: unit_display_number(style.display),
+                per_display: per_display_number(style.per_display),
                 ..PLAIN
             },
         }

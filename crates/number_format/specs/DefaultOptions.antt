@@ -4,7 +4,7 @@ use Rattle.decimal_format.specs.declared.grouping.GroupingStrategy.{GroupingStra
 use Rattle.fixed_decimal.specs.declared.variations.SignDisplay.{SignDisplay}
 use Rattle.locale_data.specs.declared.currency.CurrencySign.{CurrencySign}
 use Rattle.locale_names.specs.declared.{locale_units.UnitDisplay.UnitDisplay, unit_id.Unit.Unit}
-use Rattle.number_format.specs.{declared.{digits.{options.DigitOptions.DigitOptions, error.DigitOptionsError.DigitOptionsError, settings.{DigitDefaults.DigitDefaults, DigitSettings.DigitSettings}}, options.{CurrencyDisplay.CurrencyDisplay, CurrencyStyle.CurrencyStyle, CurrencyUsage.CurrencyUsage, DecimalSeparatorDisplay.DecimalSeparatorDisplay, ExponentOptions.ExponentOptions, ExponentSign.ExponentSign, GroupSizes.GroupSizes, NumberNotation.NumberNotation, NumberOptions.NumberOptions, NumberStyle.NumberStyle, UnitStyle.UnitStyle}}, DefaultDigits.IsDefault, Resolved.{IsResolved, resolve_error}}
+use Rattle.number_format.specs.{declared.{digits.{options.DigitOptions.DigitOptions, error.DigitOptionsError.DigitOptionsError, settings.{DigitDefaults.DigitDefaults, DigitSettings.DigitSettings}}, options.{CurrencyDisplay.CurrencyDisplay, CurrencyStyle.CurrencyStyle, CurrencyUsage.CurrencyUsage, DecimalSeparatorDisplay.DecimalSeparatorDisplay, ExponentOptions.ExponentOptions, ExponentSign.ExponentSign, GroupSizes.GroupSizes, NumberNotation.NumberNotation, NumberOptions.NumberOptions, NumberStyle.NumberStyle, PerDisplay.PerDisplay, UnitStyle.UnitStyle}}, DefaultDigits.IsDefault, Resolved.{IsResolved, resolve_error}}
 
 -- one digit or more, and a minus sign below 0
 abbrev pub plain_exponent : ExponentOptions
@@ -21,7 +21,7 @@ currency_style code = record {
 
 -- the short text of a unit
 abbrev pub unit_style : Unit → UnitStyle
-unit_style unit = record { unit = unit; display = UnitDisplay.Short }
+unit_style unit = record { unit = unit; display = UnitDisplay.Short; per_display = PerDisplay.Auto }
 
 -- in compact notation a separator has at least two digits before it
 abbrev pub default_grouping : NumberNotation → GroupingStrategy

@@ -4,7 +4,7 @@ use Rattle.decimal_format.specs.declared.grouping.GroupingSizes.{GroupingSizes}
 use Rattle.locale_data.specs.{declared.{currency.CurrencyPattern.CurrencyPattern, local_currency.{CurrencySymbol.CurrencySymbol, LocalCurrency.LocalCurrency}, tables.rows.patterns.{Affix.Affix, AffixPair.AffixPair, NumberSigns.NumberSigns, Pattern.Pattern, Piece.{Piece, TheVariants.{Empty, Minus, Plus, Currency}}}}}
 use Rattle.locale_data.specs.Patterns as pattern
 use Rattle.locale_names.specs.{declared.{locale_currencies.CurrencyNames.CurrencyNames, locale_units.{UnitDisplay.UnitDisplay, UnitPatterns.UnitPatterns}, tables.rows.units.UnitRow.UnitRow, unit_id.UnitId.UnitId}, LocaleCurrencies.AreNamesOf, LocaleUnits.AreRowsOf, Texts.short_text, Units.row_of}
-use Rattle.number_format.specs.declared.{options.{CurrencyDisplay.CurrencyDisplay, CurrencyStyle.CurrencyStyle, NumberNotation.NumberNotation, NumberStyle.NumberStyle, UnitStyle.UnitStyle}, format.{currency.ShownCurrency.ShownCurrency, outer.OuterTexts.OuterTexts, text_part.PartKind.PartKind}}
+use Rattle.number_format.specs.declared.{options.{CurrencyDisplay.CurrencyDisplay, CurrencyStyle.CurrencyStyle, NumberNotation.NumberNotation, NumberStyle.NumberStyle, PerDisplay.PerDisplay, UnitStyle.UnitStyle}, format.{currency.ShownCurrency.ShownCurrency, outer.OuterTexts.OuterTexts, text_part.PartKind.PartKind}}
 
 -- ---- Patterns.
 
@@ -90,10 +90,17 @@ AreOuterTexts tag (NumberStyle.Unit u) notation =
 AreOuterTexts tag (NumberStyle.Currency c) notation = AreNameTexts (shows_name c.display) tag c.code
 AreOuterTexts tag other notation = λ texts. texts ≡ OuterTexts.None
 
--- what of it is around one number: in percent before another unit nothing, so that it is `1%`
+abbrev pub is_auto : PerDisplay → Bool
+is_auto PerDisplay.Auto = true
+is_auto PerDisplay.Always = false
+
+-- the unit after `per` is not written beside one number: it is `1%` of percent per hour
+abbrev pub hides_per : UnitStyle → NumberNotation → Bool
+hides_per u notation = is_some u.unit.per && (is_auto u.per_display && is_percentage u notation)
+
+-- what of it is around one number
 abbrev pub outer_alone : NumberStyle → NumberNotation → OuterTexts → OuterTexts
-outer_alone (NumberStyle.Unit u) notation texts =
-    if is_some u.unit.per && is_percentage u notation then OuterTexts.None else texts
+outer_alone (NumberStyle.Unit u) notation texts = if hides_per u notation then OuterTexts.None else texts
 outer_alone other notation texts = texts
 
 -- only units and currencies have texts around the whole text

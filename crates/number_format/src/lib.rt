@@ -48,7 +48,7 @@ pub use notation::{CompactExponents, Notation};
 pub use options::{
     CompactLength, CurrencyDisplay, CurrencyStyle, CurrencyUsage, DecimalSeparatorDisplay,
     ExponentOptions, ExponentSign, GroupSizes, NumberNotation, NumberOptions, NumberStyle,
-    UnitStyle,
+    PerDisplay, UnitStyle,
 };
 pub use range::format_range::RangeFormatError;
 pub use range::formatted_range::{FormattedRange, RangeSegment, RangeSource};

@@ -54,6 +54,15 @@ pub struct CurrencyStyle {
     pub usage: CurrencyUsage,
 }
 
+/// Whether another unit is written after a percentage.
+#[derive(Clone, Copy, Debug, PartialEq)]
+pub enum PerDisplay {
+    /// In short and narrow texts of one number it is not, as `Intl.NumberFormat` has it: `1%` of percent per hour.
+    Auto,
+    /// It is, as number skeletons of ICU have it: `1%/h`.
+    Always,
+}
+
 /// How a number of units is written.
 #[derive(Clone, Copy, Debug, PartialEq)]
 pub struct UnitStyle {
@@ -61,6 +70,8 @@ pub struct UnitStyle {
     pub unit: Unit,
     /// How long its text is.
     pub display: UnitDisplay,
+    /// Whether another unit is written after a percentage.
+    pub per_display: PerDisplay,
 }
 
 /// What a number counts.

@@ -6,7 +6,7 @@ use Rattle.fixed_decimal.specs.declared.variations.SignDisplay.TheVariants as si
 use Rattle.locale_data.specs.{declared.currency.CurrencySign.CurrencySign, Codes.{code_of, system_name}, Rows.unpadded}
 use Rattle.locale_data.specs.declared.currency.CurrencySign.TheVariants as currency_sign
 use Rattle.locale_names.specs.{declared.locale_units.UnitDisplay.{UnitDisplay, TheVariants.{Long, Short, Narrow}}, Units.{Indices, indices_of}}
-use Rattle.number_format.specs.{declared.options.{CurrencyDisplay.CurrencyDisplay, CurrencyStyle.CurrencyStyle, CurrencyUsage.CurrencyUsage, DecimalSeparatorDisplay.DecimalSeparatorDisplay, GroupSizes.GroupSizes, NumberNotation.NumberNotation, NumberNotation.TheVariants.{Standard, Scientific, Engineering, Compact}, NumberOptions.NumberOptions, NumberStyle.NumberStyle}, DefaultOptions.default_grouping}
+use Rattle.number_format.specs.{declared.options.{CurrencyDisplay.CurrencyDisplay, CurrencyStyle.CurrencyStyle, CurrencyUsage.CurrencyUsage, DecimalSeparatorDisplay.DecimalSeparatorDisplay, GroupSizes.GroupSizes, NumberNotation.NumberNotation, NumberNotation.TheVariants.{Standard, Scientific, Engineering, Compact}, NumberOptions.NumberOptions, NumberStyle.NumberStyle, PerDisplay.{PerDisplay, TheVariants.{Auto, Always}}}, DefaultOptions.default_grouping}
 use Rattle.number_format.specs.declared.options.CurrencyDisplay.TheVariants as display
 use Rattle.number_format.specs.declared.options.CurrencyUsage.TheVariants as usage
 use Rattle.number_format.specs.declared.options.DecimalSeparatorDisplay.TheVariants as separator
@@ -97,14 +97,14 @@ pub data StyleValue : Type 0 where
   Percent : StyleValue
   Permille : StyleValue
   Money : CurrencyStyle → StyleValue
-  Units : Indices → UnitDisplay → StyleValue
+  Units : Indices → UnitDisplay → PerDisplay → StyleValue
 
 abbrev pub style_value : NumberStyle → StyleValue
 style_value style.Decimal = Plain
 style_value style.Percent = Percent
 style_value style.Permille = Permille
 style_value (style.Currency c) = Money c
-style_value (style.Unit u) = Units (indices_of u.unit) u.display
+style_value (style.Unit u) = Units (indices_of u.unit) u.display u.per_display
 
 abbrev pub currency_sign_of : Option (SignDisplay × CurrencySign) → CurrencySign
 currency_sign_of s = (unwrap_or s (sign.Auto, currency_sign.Standard)).1
@@ -127,12 +127,13 @@ currency_style c width stem (Some code) =
     }))
 currency_style c width stem None = Err (unsupported stem)
 
-abbrev pub units_style : UnitDisplay → Span → Option (ℕ × Span) → Indices → Result StyleValue SkeletonError
-units_style width stem second units = and_then (λ u. Ok (Units u width)) (units_of stem units second)
+abbrev pub units_style :
+    UnitDisplay → PerDisplay → Span → Option (ℕ × Span) → Indices → Result StyleValue SkeletonError
+units_style width per stem second units = and_then (λ u. Ok (Units u width per)) (units_of stem units second)
 
 -- percent or permille as a unit
 abbrev pub hundredths_style : UnitDisplay → Span → Option (ℕ × Span) → Option ℕ → Result StyleValue SkeletonError
-hundredths_style width stem second (Some first) = units_style width stem second (first, None)
+hundredths_style width stem second (Some first) = units_style width Auto stem second (first, None)
 hundredths_style width stem second None = Err (unsupported stem)
 
 abbrev pub percent_style : Bool → Option CurrencyDisplay → Span → Option (ℕ × Span) → Result StyleValue SkeletonError
@@ -155,10 +156,13 @@ loses_second false Long units = false
 loses_second false width (first, None) = false
 loses_second false width (first, Some second) = is_percent first
 
+-- in one stem both are written: `1%/h` by `unit/percent-per-hour`
+abbrev pub per_display : Bool → UnitDisplay → Indices → PerDisplay
+per_display compact width units = if loses_second compact width units then Always else Auto
+
 abbrev pub chosen_units : Bool → UnitDisplay → Span → Option (ℕ × Span) → Indices → Result StyleValue SkeletonError
 chosen_units compact width stem second units =
-    if loses_second compact width units then Err (unsupported stem)
-    else units_style width stem second units
+    units_style width (per_display compact width units) stem second units
 
 -- without a unit there is none after `per` either
 abbrev pub base_style : Option (ℕ × Span) → Result StyleValue SkeletonError

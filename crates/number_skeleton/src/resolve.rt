@@ -2,7 +2,7 @@
 ghost use Rattle.std.specs.{Prelude.{◌≡◌, Ok, Err, MatchResult}, Option.option_map};
 ghost use Rattle.locale_data.specs.{Codes.{code_of, system_name}, Rows.unpadded};
 ghost use Rattle.locale_names.specs.Units.{index_of, indices_of};
-ghost use Rattle.number_skeleton.specs.{Digits.is_compact, Units.{unit_at, index_named}, Meaning.{notation_of, width_of, unit_display, currency_display, has_pattern, has_style, or_unsupported, unit_or_none, divided, units_by, units_of, second_of, style_value, usage_of, currency_style, units_style, hundredths_style, percent_style, permille_style, is_percent, loses_second, chosen_units, base_style, style_by, style_of, scale_of, groups_of, system_by, system_of, no_usage, options_of, options_value}};
+ghost use Rattle.number_skeleton.specs.{Digits.is_compact, Units.{unit_at, index_named}, Meaning.{notation_of, width_of, unit_display, currency_display, has_pattern, has_style, or_unsupported, unit_or_none, divided, units_by, units_of, second_of, style_value, usage_of, currency_style, units_style, hundredths_style, percent_style, permille_style, is_percent, loses_second, per_display, chosen_units, base_style, style_by, style_of, scale_of, groups_of, system_by, system_of, no_usage, options_of, options_value}};
 
 use crate::choices::{Choices, ChosenNotation, ChosenPerUnit, ChosenPrecision, ChosenUnit, Span};
 use crate::error::SkeletonError;
@@ -13,7 +13,7 @@ use locale_data::{CurrencyCode, CurrencySign, NumberingSystem, unpadded};
 use locale_names::{Unit, UnitDisplay, UnitId};
 use number_format::{
     CurrencyDisplay, CurrencyStyle, CurrencyUsage, DecimalSeparatorDisplay, ExponentOptions,
-    GroupSizes, NumberNotation, NumberOptions, NumberStyle, UnitStyle,
+    GroupSizes, NumberNotation, NumberOptions, NumberStyle, PerDisplay, UnitStyle,
 };
 
 const STANDARD_SIGN: (SignDisplay, CurrencySign) = (SignDisplay::Auto, CurrencySign::Standard);
@@ -108,15 +108,20 @@ fn units_of(
 
 fn units_style(
     display: UnitDisplay,
+    per_display: PerDisplay,
     stem: Span,
     second: Option<(u8, Span)>,
     units: (u8, Option<u8>),
 ) -> Result<NumberStyle, SkeletonError>
-    ensures { MatchResult result (λ s. units_style display stem second units ≡ Ok (style_value s))
-        (λ e. units_style display stem second units ≡ Err e) }
+    ensures { MatchResult result (λ s. units_style display per_display stem second units ≡ Ok (style_value s))
+        (λ e. units_style display per_display stem second units ≡ Err e) }
 {
     let unit = units_of(stem, units, second)?;
-    Ok(NumberStyle::Unit(UnitStyle { unit, display }))
+    Ok(NumberStyle::Unit(UnitStyle {
+        unit,
+        display,
+        per_display,
+    }))
 }
 
 fn hundredths_style(
@@ -130,7 +135,10 @@ fn hundredths_style(
         (λ e. hundredths_style display stem second (index_named name.now) ≡ Err e) }
 {
     match unit_named(name) {
-        Some(unit) => units_style(display, stem, second, (unit.index(), None)),
+        Some(unit) => {
+            let units = (unit.index(), None);
+            units_style(display, PerDisplay::Auto, stem, second, units)
+        }
         None => Err(stem.unsupported()),
     }
 }
@@ -184,6 +192,16 @@ fn loses_second(is_compact: bool, display: UnitDisplay, units: (u8, Option<u8>))
     }
 }
 
+/// Returns that both units are written also if a formatter writes percent alone: `unit/percent-per-hour` is `1%/h`.
+fn per_display(is_compact: bool, display: UnitDisplay, units: (u8, Option<u8>)) -> PerDisplay
+    ensures { result ≡ per_display is_compact display units }
+{
+    if loses_second(is_compact, display, units) {
+        return PerDisplay::Always;
+    }
+    PerDisplay::Auto
+}
+
 fn chosen_units(
     is_compact: bool,
     display: UnitDisplay,
@@ -194,10 +212,8 @@ fn chosen_units(
     ensures { MatchResult result (λ s. chosen_units is_compact display stem second units ≡ Ok (style_value s))
         (λ e. chosen_units is_compact display stem second units ≡ Err e) }
 {
-    if loses_second(is_compact, display, units) {
-        return Err(stem.unsupported());
-    }
-    units_style(display, stem, second, units)
+    let per_display = per_display(is_compact, display, units);
+    units_style(display, per_display, stem, second, units)
 }
 
 fn base_style(second: Option<(u8, Span)>) -> Result<NumberStyle, SkeletonError>

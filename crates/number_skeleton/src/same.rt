@@ -29,7 +29,9 @@ fn same_units(first: Unit, second: Unit) -> bool
 fn same_unit_style(first: UnitStyle, second: UnitStyle) -> bool
     ensures { (result ≡ true) ↔ (style_value (NumberStyle.Unit first) ≡ style_value (NumberStyle.Unit second)) }
 {
-    same_units(first.unit, second.unit) && first.display == second.display
+    same_units(first.unit, second.unit)
+        && first.display == second.display
+        && first.per_display == second.per_display
 }
 
 fn same_currency(first: CurrencyStyle, second: CurrencyStyle) -> bool

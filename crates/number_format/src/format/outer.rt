@@ -1,11 +1,11 @@
 //! What is written around the whole text of a number, its sign included: the text of a unit, or the name of a currency.
 ghost use Rattle.std.specs.Prelude.{◌≡◌, ◌≤◌, ◌++◌, [], length, true};
 ghost use Rattle.locale_names.specs.LocaleUnits.{joined_texts, around_number, AreShort};
-ghost use Rattle.number_format.specs.{FormattedNumbers.IsOuter, NumberStyles.{is_percentage, outer_alone, outer_for, shows_name, AreNameTexts, AreOuterTexts, AreUnitTexts}, NumberText.{around_texts, name_texts, place_of, with_number}, PatternTexts.around, TextParts.parts_text};
+ghost use Rattle.number_format.specs.{FormattedNumbers.IsOuter, NumberStyles.{hides_per, is_percentage, outer_alone, outer_for, shows_name, AreNameTexts, AreOuterTexts, AreUnitTexts}, NumberText.{around_texts, name_texts, place_of, with_number}, PatternTexts.around, TextParts.parts_text};
 ghost use Rattle.locale_names.specs.LocaleCurrencies.{name_for, pattern_for};
 
 use crate::format::text_part::{PartKind, TextPart};
-use crate::options::{CurrencyStyle, NumberNotation, NumberStyle, UnitStyle};
+use crate::options::{CurrencyStyle, NumberNotation, NumberStyle, PerDisplay, UnitStyle};
 use locale_data::UnitAffixes;
 use locale_names::{CurrencyNames, UnitDisplay, UnitPatterns, currency_names, unit_patterns};
 use plural_rules::PluralCategory;
@@ -16,7 +16,7 @@ use plural_rules::PluralCategory;
 pub enum OuterTexts {
     /// Nothing but the percent sign of compact notation.
     None,
-    /// The patterns of a unit. In percent per another unit only ranges are written by them.
+    /// The patterns of a unit. In percent per another unit only ranges are written by them, unless both always are.
     Units(UnitPatterns),
     /// The names of a currency.
     Names(CurrencyNames),
@@ -43,6 +43,15 @@ fn is_percentage(style: UnitStyle, notation: NumberNotation) -> bool
     }
 }
 
+/// Returns whether the unit after `per` is not written beside one number: it is `1%` of percent per hour.
+fn hides_per(style: UnitStyle, notation: NumberNotation) -> bool
+    ensures { result ≡ hides_per style notation }
+{
+    style.unit.per.is_some()
+        && matches!(style.per_display, PerDisplay::Auto)
+        && is_percentage(style, notation)
+}
+
 impl OuterTexts {
     /// Returns the texts that a style has: those of a unit or of a currency.
     #[inline(always)]
@@ -61,9 +70,7 @@ impl OuterTexts {
         ensures { result ≡ outer_alone style notation self }
     {
         match style {
-            NumberStyle::Unit(unit) if unit.unit.per.is_some() && is_percentage(unit, notation) => {
-                OuterTexts::None
-            }
+            NumberStyle::Unit(unit) if hides_per(unit, notation) => OuterTexts::None,
             _ => self,
         }
     }

@@ -8,7 +8,7 @@ use crate::digits::settings::DigitSettings;
 use crate::options::{
     CompactLength, CurrencyDisplay, CurrencyStyle, CurrencyUsage, DecimalSeparatorDisplay,
     ExponentOptions, ExponentSign, GroupSizes, NumberNotation, NumberOptions, NumberStyle,
-    UnitStyle,
+    PerDisplay, UnitStyle,
 };
 use decimal_format::GroupingStrategy;
 use fixed_decimal::SignDisplay;
@@ -58,6 +58,7 @@ impl UnitStyle {
         UnitStyle {
             unit,
             display: UnitDisplay::Short,
+            per_display: PerDisplay::Auto,
         }
     }
 
@@ -66,6 +67,16 @@ impl UnitStyle {
         ensures { result ≡ record self { display = display } }
     {
         UnitStyle { display, ..self }
+    }
+
+    /// Returns the style that writes another unit after a percentage always, or as `Intl.NumberFormat` does.
+    pub fn with_per_display(self, per_display: PerDisplay) -> UnitStyle
+        ensures { result ≡ record self { per_display = per_display } }
+    {
+        UnitStyle {
+            per_display,
+            ..self
+        }
     }
 }
 

@@ -27,7 +27,10 @@ module _ (c : StyleCodes) where
       let one = is.display in
       let other = js.display in
       let display : a.display ≡ b.display = cc in
-      λ i. record { unit = unit i; display = display i }
+      let one_per = is.per in
+      let other_per = js.per in
+      let per : a.per_display ≡ b.per_display = cc in
+      λ i. record { unit = unit i; display = display i; per_display = per i }
 
   -- the number of a style
   abbrev style_code : NumberStyle → ℕ
