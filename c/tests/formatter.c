@@ -359,6 +359,11 @@ static void test_resolved(void) {
     CHECK(r.options.minimum_integer_digits == 0 && r.options.maximum_integer_digits == 2);
     f.options.group_sizes = 2;
     CHECK(fd_resolved(&f).status == FD_FORMATTER);
+    f = by_skeleton("en", "unit/percent-per-hour");
+    r = fd_resolved(&f);
+    CHECK(r.options.per_display == FD_PER_ALWAYS && r.options.unit_display == FD_UNIT_SHORT);
+    f.options.per_display = 2;
+    CHECK(fd_resolved(&f).status == FD_FORMATTER);
 }
 
 static void test_status_texts(void) {

@@ -781,6 +781,12 @@ def test_units():
     furlong = NumberFormat("en", skeleton="unit/furlong-per-day unit-width-full-name decimal-always .")
     found = [furlong.resolved_options().get(name) for name in ("unit", "unit_display", "decimal_separator")]
     check(found == ["furlong-per-day", "long", "always"], "resolved options of a skeleton", found)
+    share = NumberFormat("en", skeleton="unit/percent-per-hour")
+    found = share.format(1), share.resolved_options().get("per_display")
+    check(found == ("1%/h", "always"), "both units by a skeleton", found)
+    share = NumberFormat("en", style="unit", unit="percent-per-hour")
+    found = share.format(1), share.resolved_options().get("per_display")
+    check(found == ("1%", None), "percent alone by options", found)
     check(NumberFormat("de", unit="meter").format(5) == "5", "a unit of another style")
     for unit in WRONG_UNITS:
         for options in ({"style": "unit", "unit": unit}, {"unit": unit}, {"style": "percent", "unit": unit}):
