@@ -291,15 +291,11 @@ pub(crate) fn decode_calls<'t>(
     ensures err { IfErr result (λ error. DecodeFails error calls.now texts.now) }
 {
     if calls.len() > INLINE_CALLS {
-        return match decode_long(alloc, calls, texts) {
-            Ok(list) => Ok(Some(list)),
-            Err(error) => Err(error),
-        };
+        let list = decode_long(alloc, calls, texts)?;
+        return Ok(Some(list));
     }
-    match decode_short(calls, texts, short) {
-        Ok(()) => Ok(None),
-        Err(error) => Err(error),
-    }
+    decode_short(calls, texts, short)?;
+    Ok(None)
 }
 
 /// Returns the calls in memory, or else the first of the others.

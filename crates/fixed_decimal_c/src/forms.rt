@@ -131,10 +131,8 @@ pub(crate) fn reader(
     ensures err { IfErr result (λ error. ReaderFails error form.now texts.now) }
 {
     if form.skeleton_count > 0 {
-        return match skeleton_reader(alloc, form, texts) {
-            Ok((reader, mode)) => Ok(Some(LocaleReader::Numbers(reader, mode))),
-            Err(error) => Err(error),
-        };
+        let (reader, mode) = skeleton_reader(alloc, form, texts)?;
+        return Ok(Some(LocaleReader::Numbers(reader, mode)));
     }
     let Some(symbols) = symbols(form, texts)? else {
         return Ok(None);

@@ -65,10 +65,8 @@ pub(crate) fn read_ends(
     ensures err { IfErr result (λ error. EndsFail error start.now end.now) }
 {
     let first = read(alloc, start, 0)?;
-    match read(alloc, end, 1) {
-        Ok(second) => Ok((first, second)),
-        Err(error) => Err(error),
-    }
+    let second = read(alloc, end, 1)?;
+    Ok((first, second))
 }
 
 /// Returns the error of a range that is not formatted: an overflow is that of the first number, 0, or of the second, 1.
@@ -107,10 +105,8 @@ fn format_texts(
 ) -> Result<usize, FdError>
     ensures { WritesRange formatter.now texts.now result start.now end.now buffer.old buffer.new }
 {
-    match read_ends(alloc, start, end) {
-        Ok((start, end)) => write_range(alloc, formatter, texts, start, end, buffer),
-        Err(error) => Err(error),
-    }
+    let (start, end) = read_ends(alloc, start, end)?;
+    write_range(alloc, formatter, texts, start, end, buffer)
 }
 
 /// Reads two decimals, and writes their range by the formatter that C keeps.
