@@ -49,8 +49,8 @@ const forms = (format, number) => {
   const { numerals, around, kinds } = split(format, number);
   const parts = partsOf(format, number);
   const texts = new Set();
-  for (const sample of SAMPLES.flatMap(it => it.includes('.') ? [it]
-      : [0, 3, 2, 1].map(cut => it + '0'.repeat(cut && Math.max(whole.length - cut, 0))))) {
+  const zeros = [0, 10, 12, ...[3, 2, 1].map(cut => Math.max(whole.length - cut, 0))];
+  for (const sample of SAMPLES.flatMap(it => it.includes('.') ? [it] : zeros.map(count => it + '0'.repeat(count)))) {
     const other = split(format, typeof number === 'string' ? sign + sample : [number[0], sign + sample]);
     if (other.kinds === kinds) {
       const words = [other.around[0], ...around.slice(1, -1), other.around.at(-1)];
@@ -225,7 +225,7 @@ def known(locale, number, options, own, text, forms):
     if len({float(it) for it in numbers}) < len({exact(it) for it in numbers}):
         return "a range of two numbers that are the same double"
     tag = locale.partition("-x-")[0].lower()
-    if is_azerbaijani(tag) and options.get("numberingSystem") in ("arab", "arabext") or tag == "yrl":
+    if is_azerbaijani(tag) and options.get("numberingSystem") in ("arab", "arabext") or tag.split("-")[0] == "yrl":
         return "letters or signs in a pattern"
     if (tag, options.get("currency")) == ("sr-cyrl-me", "BYN"):
         return "a currency of Cyrillic Montenegro by its name in Latin letters"
